@@ -1,4 +1,5 @@
--- Whether an entry or a bound of a page of the format isn't beyond its low: the first entry and the second bound tell.
+-- Whether an entry or a bound of a page of the format isn't beyond its low: the first entry and the second
+-- bound tell.
 use Rattle.std.proofs.Common.{◌≡◌, ◌≢◌, ◌⊎◌, ℕ, ◌<◌, inl, inr, Bool, true, false, Option, Some, None, List, [], ◌∷◌, length, slice_get, refl, sym, ap, subst, ◌∙◌, arith}
 use Rattle.index_model.specs.Order.{bound_of}
 use Rattle.index_model.specs.declared.entry.Entry.{Entry}
@@ -41,7 +42,7 @@ links_ascend page admitted = by page.items admitted.kind
 pub second_tells : (low : Option Bound) (page : Page) → IsPage page → (IsSecondBeyond low (links_of page.items) → ⊥) → HasNotBeyond low (node_of page)
 second_tells low page admitted h = inr (second_not low (links_of page.items) (links_ascend page admitted) h)
 
--- where both are beyond the low, all are
+-- if both are beyond the low, all are
 pub all_beyond : (low : Option Bound) (page : Page) → IsPage page → IsFirstBeyond low (entries_of page.items) → IsSecondBeyond low (links_of page.items) → HasNotBeyond low (node_of page) → ⊥
 all_beyond low page admitted first second has = by page.items admitted.kind first second has
   where

@@ -44,7 +44,7 @@ stops_below met used before stops is some added =
 not_so : false ≡ true → ⊥
 not_so e = cc
 
--- where each level is clear, so is the index without its parents and children
+-- if each level is clear, so is the index without its parents and children
 pub sound_levels : (keys : Bool) (pages : List Page) → ((depth : ℕ) → depth ≤ (index_of pages).top → IsClearLevel (index_of pages) keys depth) → IsSound false keys pages
 sound_levels keys pages clear (on_way depth step deep) number damage = (clear depth deep).way step number damage
 sound_levels keys pages clear (on_chain h) number damage = (clear h.depth h.deep).chain h number refl damage
@@ -56,7 +56,8 @@ module _ (keys : Bool) (pages : List Page) (depth number block : ℕ) (deep : de
   abbrev ix : Index
   ix = index_of pages
 
-  -- what comes before a damage of the way is one of an earlier step, or of a lesser number, or of a level above
+  -- what comes before a damage of the way is one of an earlier step, or of a lesser number, or of a level
+  -- above
   way_first : (f : IsFirstOfPath ix depth number block) (other : Site ix) (n : ℕ) → IsDamage false keys other n → ComesBefore (rank other n) (0 ∷ depth ∷ 0 ∷ f.step ∷ number ∷ []) → ⊥
   way_first f (on_way d s e) n damage (inl lt) = omega (arith, lt)
   way_first f (on_way d s e) n damage (inr (same, inl lt)) = (above d lt).way s n damage
@@ -72,7 +73,7 @@ module _ (keys : Bool) (pages : List Page) (depth number block : ℕ) (deep : de
   way_first f (at_page h) n damage before = not_so damage.0
   way_first f (nowhere b) n damage before = not_so damage.0
 
-  -- ... and before one of the chain, where the way is clear
+  -- ... and before one of the chain, if the way is clear
   chain_first : (way : IsClearPath ix depth) (f : IsFirstOfChain ix keys depth number block) (other : Site ix) (n : ℕ) → IsDamage false keys other n
       → ComesBefore (rank other n) (rank (on_chain f.here) number) → ⊥
   chain_first way f (on_way d s e) n damage (inl lt) = omega (arith, lt)

@@ -18,7 +18,7 @@ number_some keys h n (inr (inr (inr (inr (inr (inr (inl a))))))) = (let k = a.0 
 number_some keys h n (inr (inr (inr (inr (inr (inr (inr (inl a)))))))) = (let k = a.0 in omega arith)
 number_some keys h n (inr (inr (inr (inr (inr (inr (inr (inr a)))))))) = (let k = a.0 in omega arith)
 
--- ... that is 1 where the page isn't on the level, 2 where its left link is wrong, and else more
+-- ... that is 1 if the page isn't on the level, 2 if its left link is wrong, and else more
 number_cases : {ix : Index} (keys : Bool) (h : Here ix) (n : ℕ) → IsOfChain keys h n → ((n ≡ 1) × (IsOnLevel ix h.depth h.block → ⊥)) ⊎ ((n ≡ 2) × ((node h).left ≢ (context h).left)) ⊎ (3 ≤ n)
 number_cases keys h n (inl a) = inl a
 number_cases keys h n (inr (inl a)) = inr (inl a)
@@ -129,7 +129,7 @@ module _ (ix : Index) (keys : Bool) (depth : ℕ) (root : Option ℕ) (stops : L
             ];
       }
 
-  -- where nothing is wrong at a stop, nothing is damaged before the end of the walk
+  -- if nothing is wrong at a stop, nothing is damaged before the end of the walk
   module _ (right : IsFirstPlace (IsBad ix.at keys root stops) None) where
     clear_before : (h : Here ix) (n : ℕ) → h.depth ≡ depth → h.place < length stops → IsOfChain keys h n → ⊥
     clear_before h n same inside damage = right h.place (record { number = n; wrong = wrong_at h n same inside damage })

@@ -72,7 +72,7 @@ pub off_here : (ix : Index) (depth : ℕ) (links : List Downlink) (n : ℕ) (lin
     → ((j : ℕ) (l : Downlink) → j < n → slice_get links j ≡ Some l → IsOnLevel ix (suc depth) l.child) → IsOff ix depth links link.child
 off_here ix depth links n link there off before = record { item = n; link = link; there = there; child_is = refl; off = off; first = before }
 
--- what holds of the first so many and of the next holds of one more
+-- what holds of the first `n` and of the next holds of the first `m`, which are one more
 pub one_more : (P : Downlink → Type 0) (links : List Downlink) (n m : ℕ) (link : Downlink) → slice_get links n ≡ Some link → P link → m ≡ suc n
     → ((j : ℕ) (l : Downlink) → j < n → slice_get links j ≡ Some l → P l) → (j : ℕ) (l : Downlink) → j < m → slice_get links j ≡ Some l → P l
 one_more P links n m link there holds is before j l lt found = elim (cases_eq j n) [

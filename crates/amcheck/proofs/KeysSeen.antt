@@ -1,4 +1,4 @@
--- What parents and children come to where keys are seen too: they have nothing to do with keys.
+-- What parents and children come to if keys are seen too: they have nothing to do with keys.
 use Rattle.std.proofs.Common.{◌≡◌, ℕ, Bool, true, false, List, Result, Ok, Err, IfOk, IfErr, OnOk, OnErr, sym, subst, ◌∙◌}
 use Rattle.tree_acts.specs.TheoremKeys.{IsTreeFor}
 use Rattle.tree_acts.proofs.Keyed.{keyed_shows}
@@ -8,7 +8,7 @@ use Rattle.amcheck.proofs.Imports.{Page, State, Backing, AreStored, AreUnique, I
 use Rattle.amcheck.proofs.Imports.{nowhere, more, IsCheckFault, CheckFault, Damaged, Damage, Report}
 
 module _ (keys : Bool) (pages : List Page) (sound : IsSound false keys pages) where
-  -- where the chains are right
+  -- if the chains are right
   pub sound_both : IsSound true false pages → IsSound true keys pages
   sound_both all (on_way depth step deep) number damage = sound (on_way depth step deep) number damage
   sound_both all (on_chain h) number damage = sound (on_chain h) number damage
@@ -26,7 +26,7 @@ module _ (keys : Bool) (pages : List Page) (sound : IsSound false keys pages) wh
       later (at_page h) n damage before = f.first (at_page h) n damage before
       later (nowhere b) n damage before = f.first (nowhere b) n damage before
 
--- what follows where keys are seen
+-- what follows if keys are seen
 pub unique_where : {P : Type 0} (parents keys : Bool) (pages : List Page) → (IsSound parents true pages → P) → IsSound parents keys pages → keys ≡ true → P
 unique_where parents true pages follows sound seen = follows sound
 unique_where parents false pages follows sound seen = absurd cc

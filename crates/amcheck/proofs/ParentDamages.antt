@@ -197,7 +197,7 @@ module _ (pages : List Page) (stops : List Stop) (all : AreAllStops (index_of pa
   context_for : (h : Here ix) → context h ≡ context_at at (index h).stop
   context_for h = ap (λ (p : Place). p.context) (at_of h).is
 
-  -- a page is on a chain where it has a stop
+  -- a page is on a chain if it has a stop
   no_stop_off : (b : ℕ) → HasNoStop stops b → IsOnChain ix b → ⊥
   no_stop_off b none on =
       let h : Here ix = record { depth = on.depth; place = on.place; block = b; deep = on.deep; is = on.is } in
@@ -489,7 +489,7 @@ module _ (pages : List Page) (stops : List Stop) (all : AreAllStops (index_of pa
         by (inl c) = record { site = at_child c.here c.item; is = (refl, c.one, c.off); block_is = c.block_is; first = λ other n damage before. child_first c other n damage before }
         by (inr p) = record { site = at_page p.here; is = (refl, p.is); block_is = p.block_is; first = λ other n damage before. page_first_of p other n damage before }
 
-  -- where every stop is clear, pages on no chain are left
+  -- if every stop is clear, pages on no chain are left
   module _ (clear : (k : ℕ) → k < length stops → IsClearAt ix stops k) where
     clear_of : (h : Here ix) → IsClearAt ix stops (index h).index
     clear_of h = clear (index h).index (stop_inside stops (index h).index (index h).stop (index h).there)

@@ -3,7 +3,7 @@ use Rattle.std.proofs.Common.{◌≡◌, ◌↔◌, ℕ, zero, suc, ◌+◌, ◌
 use Rattle.std.specs.Option.{option_map}
 use Rattle.amcheck.proofs.Imports.{AllZip, range_with_len, cases_lt, first_true, IsFirstPlace}
 
--- of so many places from the first one on
+-- of `n` places from this one on
 abbrev IsFirstIn : (ℕ → Type 0) → ℕ → ℕ → Option ℕ → Type 0
 IsFirstIn P a n None = (k : ℕ) → a ≤ k → k < a + n → P k → ⊥
 IsFirstIn P a n (Some j) = (j < n) × P (a + j) × ((k : ℕ) → a ≤ k → k < a + j → P k → ⊥)

@@ -46,7 +46,8 @@ more_cases (x ∷ ss) t (suc k) s e = elim (more_cases ss t k s e) [
   | inr r ↦ inr (let l = r.0 in omega arith, r.1)
 ]
 
--- how far a walk has come: the blocks of its stops were met after those that were before, and this stop is next
+-- how far a walk has come: the blocks of its stops were met after those that were before, and this stop is
+-- next
 pub record HasWalked (pages : List Page) (depth : ℕ) (before : List ℕ) (met : Met) (stops : List Stop) (stop : Stop) (step : ℕ) : Type 0 where
   pub met_is : IsMet met (length pages)
   pub added : met.blocks.items ≡ before ++ stop_blocks stops

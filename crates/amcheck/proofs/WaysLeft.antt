@@ -11,7 +11,7 @@ level_there pages level depth block sum on = record { after_meta = on.after_meta
 pub level_back : (pages : List Page) (level depth block : ℕ) → level + depth ≡ (index_of pages).top → IsOnLevel (index_of pages) depth block → places.PageIsOnLevel pages level block
 level_back pages level depth block sum on = record { after_meta = on.after_meta; in_use = on.in_use; level_is = (let l = on.level_is in omega arith) }
 
--- the blocks of the first so many steps
+-- the blocks of a number of steps, the first ones
 abbrev blocks : Index → ℕ → ℕ → List ℕ
 blocks ix depth zero = []
 blocks ix depth (suc n) = left_after_steps ix depth n ∷ blocks ix depth n
@@ -30,7 +30,8 @@ size : (ix : Index) (depth n : ℕ) → length (blocks ix depth n) ≡ n
 size ix depth zero = refl
 size ix depth (suc n) = (let r = size ix depth n in omega (arith, r))
 
--- how far the way was gone: nothing is damaged so far, it goes on, and its pages are marked beside those that were before
+-- how far the way was gone: nothing is damaged so far, it goes on, and its pages are marked beside those that
+-- were before
 pub record IsKeptFromReuse (pages : List Page) (depth : ℕ) (before seen : List Bool) (block step : ℕ) : Type 0 where
   pub block_is : block ≡ left_after_steps (index_of pages) depth step
   pub size : length seen ≡ length pages

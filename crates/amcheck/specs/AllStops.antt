@@ -9,7 +9,8 @@ pub record StopsAreAll (ix : Index) (depth : ℕ) (stops : List Stop) : Type 0 w
   pub are : AreStops ix depth stops
   pub ends : (place_at ix depth (length stops)).block ≡ None
 
--- the stops are all places of the chains of so many levels, the root's first, one level after the other
+-- the stops are all places of the chains of this number of levels, the root's first, one level after the
+-- other
 abbrev pub AreAllStops : Index → ℕ → List Stop → Type 0
 AreAllStops ix zero stops = stops ≡ []
 AreAllStops ix (suc depth) stops = (front : List Stop) × (back : List Stop) × (stops ≡ front ++ back)

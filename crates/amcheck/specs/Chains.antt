@@ -6,7 +6,8 @@ use Rattle.damages.specs.Damages.{Index, Here, IsOfChain}
 abbrev pub IsClearChain : Index → Bool → ℕ → Type 0
 IsClearChain ix keys depth = (h : Here ix) (number : ℕ) → h.depth ≡ depth → IsOfChain keys h number → ⊥
 
--- this is, with this number and block, and nothing that comes before it: at an earlier place, or of a lesser number
+-- there is a damage of this number and block, and none that comes before it: at an earlier place, or of a
+-- lesser number at the same place
 pub record IsFirstOfChain (ix : Index) (keys : Bool) (depth number block : ℕ) : Type 0 where
   pub here : Here ix
   pub deep : here.depth ≡ depth

@@ -6,7 +6,7 @@ use Rattle.page_action.specs.States.{State, Backing}
 use Rattle.amcheck.specs.declared.report.CheckFault.{CheckFault}
 use Rattle.amcheck.specs.declared.report.CheckFault.TheVariants.{Damage, Refused}
 
--- every page is read, in room that is made for it; a page is damaged only where the device did not keep
+-- every page is read, in room that is made for it; a page is damaged only if the device did not keep
 -- its model
 abbrev pub causes_of_checked : State → Backing → Backing → Circumstances
 causes_of_checked st old new = record nothing_wrong {
@@ -17,7 +17,7 @@ causes_of_checked st old new = record nothing_wrong {
   page_is_damaged = λ b. not new.honest;
 }
 
--- Damage is found only where the pages are not as they are to be, as far as the device kept its model;
+-- Damage is found only if the pages are not as they are to be, as far as the device kept its model;
 -- and what is refused has its cause.
 abbrev pub IsCheckFault : State → Backing → Backing → Type 0 → CheckFault → Type 0
 IsCheckFault st old new sound (Damage number block) = new.honest ≡ true → sound → ⊥

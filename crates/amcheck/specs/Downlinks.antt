@@ -1,5 +1,5 @@
--- What is judged of the downlinks of a page of a chain, where all chains are right. The first of them has the page's low for
--- its bound.
+-- What is judged of the downlinks of a page of a chain, if all chains are right. The first of them has the
+-- page's low for its bound.
 use Rattle.std.specs.Prelude.{◌≡◌, ◌≢◌, ◌⊎◌, ℕ, suc, ◌<◌, Bool, true, false, Some, List, slice_get, get_or}
 use Rattle.page_codec.specs.declared.page.Downlink.{Downlink}
 use Rattle.page_codec.specs.declared.page.PageState.TheVariants.{HalfDead}
@@ -69,13 +69,14 @@ pub record HasExtra (at : ℕ → Node) (stops : List Stop) (linked : List Bool)
   pub there : slice_get links item ≡ Some link
   pub wrong : IsExtra at stops linked link.child ⊎ LeadsBefore links item link.child
 
--- beside the blocks that were marked before those are to which one of the first so many leads
+-- beside the blocks that were marked before those are to which one of the first `count` leads
 pub record DownlinksAreNoted (links : List Downlink) (count : ℕ) (before after : List Bool) : Type 0 where
   pub from : (b : ℕ) → get_or after b false ≡ true → (get_or before b false ≡ true) ⊎ LeadsBefore links count b
   pub kept : (b : ℕ) → get_or before b false ≡ true → get_or after b false ≡ true
   pub new : (b : ℕ) → LeadsBefore links count b → get_or after b false ≡ true
 
--- Number by number, what is wrong with a page among its parents and children, all of which are on the level below.
+-- Number by number, what is wrong with a page among its parents and children, all of which are on the level
+-- below.
 pub record IsWrongAmong (at : ℕ → Node) (stops : List Stop) (linked : List Bool) (links : List Downlink) (top : ℕ)
     (node : Node) (stop : Stop) (number : ℕ) : Type 0 where
   pub is : ((number ≡ 7) × HasWrongBound at stops links)

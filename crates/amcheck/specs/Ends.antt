@@ -11,7 +11,8 @@ pub record IsEarlier (ix : Index) (depth place block : ℕ) : Type 0 where
   pub before : earlier < place
   pub is : (place_at ix depth earlier).block ≡ Some block
 
--- at this place: the chain is not so long, or has a block that is on another level or on none, or comes back to a page
+-- at this place: the chain is not so long, or has a block that is on another level or on none, or comes back
+-- to a page
 abbrev pub IsChainEnd : Index → ℕ → ℕ → End → Type 0
 IsChainEnd ix depth place Whole = (place_at ix depth place).block ≡ None
 IsChainEnd ix depth place (Off block) = ((place_at ix depth place).block ≡ Some block) × (IsOnLevel ix depth block → ⊥)

@@ -18,12 +18,12 @@ IsAnswered (Ok report) = ⊤
 IsAnswered (Err (Damage number block)) = ⊤
 IsAnswered (Err (Refused fault)) = ⊥
 
--- two answers, neither refused, are one, whichever check they are of, in one thread or in many
+-- two answers, neither refused, are equal, whichever check they are of, in one thread or in many
 abbrev pub AnswersAreOne : Type 0
 AnswersAreOne = (parents keys : Bool) (pages : List Page) (one other : Result Report CheckFault)
     → IsAnswer parents keys pages one → IsAnswer parents keys pages other → IsAnswered one → IsAnswered other → one ≡ other
 
--- so are one without parents and children and one with them, unless only the second is a damage
+-- an answer without parents and children and one with them are equal too, unless only the second is a damage
 abbrev pub ParentsSeeMore : Type 0
 ParentsSeeMore = (keys : Bool) (pages : List Page) (one other : Result Report CheckFault)
     → IsAnswer false keys pages one → IsAnswer true keys pages other → IsAnswered one → IsAnswered other

@@ -11,7 +11,8 @@ pub record IsClearLevel (ix : Index) (keys : Bool) (depth : ℕ) : Type 0 where
   pub way : IsClearPath ix depth
   pub chain : IsClearChain ix keys depth
 
--- this is, with this number and block, and nothing that comes before it; the chain is looked at where the way is clear
+-- there is a damage of this number and block, and none that comes before it; the chain is looked at if the
+-- way is clear
 pub record IsFirstOfLevel (ix : Index) (keys : Bool) (depth number block : ℕ) : Type 0 where
   pub is : IsFirstOfPath ix depth number block ⊎ (IsClearPath ix depth × IsFirstOfChain ix keys depth number block)
 

@@ -13,7 +13,8 @@ pub record IsClearAt (ix : Index) (stops : List Stop) (k : ℕ) : Type 0 where
   pub children : AreChildrenBelow ix stops k
   pub page : (h : Here ix) (n : ℕ) → IsAt stops k h → IsOfParents h n → ⊥
 
--- a child isn't on the level below: that is damage 1 of its block, and the first item with such a child counts
+-- a child isn't on the level below: that is damage 1 of its block, and the first item with such a child
+-- counts
 pub record IsFirstChild (ix : Index) (stops : List Stop) (k number block : ℕ) : Type 0 where
   pub here : Here ix
   pub at : IsAt stops k here

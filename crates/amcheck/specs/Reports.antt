@@ -29,8 +29,8 @@ abbrev pub one_if_incomplete : Bool → ℕ
 one_if_incomplete true = 1
 one_if_incomplete false = 0
 
--- The report on pages in so many levels, from the root's to the leaves: the blocks in use, block 0 included; the entries on
--- live leaves; the pages that are half-dead, deleted and with an incomplete split.
+-- The report on pages in `levels` levels, from the root's to the leaves: the blocks in use, block 0 included;
+-- the entries on live leaves; the pages that are half-dead, deleted and with an incomplete split.
 abbrev pub report_of : ℕ → List Page → Report
 report_of levels pages = record {
   levels = levels;

@@ -46,8 +46,8 @@ IsTooMuch (Some root) s block = (block ≢ root) × (IsAfterRoot root s → ⊥)
 pub record HasWrongItem (low : Option Bound) (node : Node) : Type 0 where
   pub is : HasNotBeyond low node
 
--- Number by number, what is judged of a page of the level that wasn't met before: all but 1 and 3, which the walk finds. The
--- last is judged where keys are seen.
+-- Number by number, what is judged of a page of the level that wasn't met before: all but 1 and 3, which the
+-- walk finds. The last is judged if keys are seen.
 abbrev pub IsWrong : Bool → Node → Option ℕ → LeftContext → ℕ → ℕ → Type 0
 IsWrong keys node root s block number =
     ((number ≡ 2) × (node.left ≢ s.left))

@@ -6,7 +6,8 @@ use Rattle.damages.specs.Damages.{Index, left_after_steps, IsOfPath}
 abbrev pub IsClearPath : Index → ℕ → Type 0
 IsClearPath ix depth = (step number : ℕ) → IsOfPath ix depth step number → ⊥
 
--- this is, with this number and block, and nothing that comes before it: at an earlier step, or of a lesser number
+-- there is a damage of this number and block, and none that comes before it: at an earlier step, or of a
+-- lesser number at the same step
 pub record IsFirstOfPath (ix : Index) (depth number block : ℕ) : Type 0 where
   pub step : ℕ
   pub is : IsOfPath ix depth step number

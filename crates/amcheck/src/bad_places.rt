@@ -86,7 +86,7 @@ pub(crate) fn find_bad(
         )
 }
 
-/// The number of a page that was met before: 2 where its left link isn't the page before, and else 3.
+/// The number of a page that was met before: 2 if its left link isn't the page before, and else 3.
 fn met_number(pages: &Pages, stop: &Stop) -> u8
     requires in_use { stop.now.block < length pages.now }
     ensures two { result ≡ 2 → (nodes_of pages.now stop.now.block).left ≢ stop.now.left }
@@ -127,7 +127,8 @@ fn damage_at_end(
     }
 }
 
-/// The first damage of the chain of a level, along which these stops were made. The first bad one of them is found so.
+/// The first damage of the chain of a level, along which these stops were made. `find` finds the first bad
+/// stop.
 pub(crate) fn first_in_chain<F: Fn(&Pages, bool, Option<u32>, &[Stop]) -> Option<usize>>(
     find: &F,
     pages: &Pages,

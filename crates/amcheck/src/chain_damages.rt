@@ -18,7 +18,8 @@ use crate::stops::Stop;
 use crate::walks::walk;
 use crate::ways::find_leftmost;
 
-/// Where the way to the leftmost page of the next level begins: the child of the first downlink of this one's, or 0.
+/// Where the way to the leftmost page of the next level begins: the child of the first downlink of this
+/// one's, or 0.
 fn next_begin(pages: &Pages, head: u32) -> u32
     ensures { result ≡ first_child (nodes_of pages.now head).links }
 {
@@ -36,7 +37,8 @@ fn root_at(root: u32, depth: u8) -> Option<u32>
     if depth == 0 { Some(root) } else { None }
 }
 
-/// Judges the chain of a level: the leftmost page, or the first damage. `stops` has room for a stop at each page in use.
+/// Judges the chain of a level: the leftmost page, or the first damage. `stops` has room for a stop at each
+/// page in use.
 fn judge_level<F: Fn(&Pages, bool, Option<u32>, &[Stop]) -> Option<usize>>(
     find: &F,
     pages: &Pages,
@@ -95,9 +97,9 @@ fn keep(chains: &mut Vec<Stop>, stops: &[Stop])
     }
 }
 
-/// The first damage of the chains of all levels, from the root's to the leaves. No block was seen or met before; `stops` and
-/// `chains` have room for a stop at each page in use. Where there is no damage `chains` has the stops of all levels. What a
-/// unique index asks of bounds and keys is judged if `keys`.
+/// The first damage of the chains of all levels, from the root's to the leaves. No block was seen or met
+/// before; `stops` and `chains` have room for a stop at each page in use. If there is no damage `chains` has
+/// the stops of all levels. What a unique index asks of bounds and keys is judged if `keys` is true.
 pub(crate) fn find_chain_damage<F: Fn(&Pages, bool, Option<u32>, &[Stop]) -> Option<usize>>(
     find: &F,
     pages: &Pages,

@@ -37,7 +37,8 @@ fn told(judged: Result<Report, Damage>) -> Result<Report, CheckFault>
     }
 }
 
-/// Judges the levels of an index and their links, as `check` and `check_one` do, where the first bad stop is found so.
+/// Judges the levels of an index and their links, as `check` and `check_one` do. `find` finds the first bad
+/// stop.
 pub(crate) fn check_by<
     F: Fn(&Pages, bool, Option<u32>, &[Stop]) -> Option<usize>,
     S: PageStore,
@@ -48,7 +49,8 @@ pub(crate) fn check_by<
     ensures steps { Continues S.follows store.old store.new }
     ensures state { S.state store.new ≡ S.state store.old }
     ensures room { KeepsRoom (S.state store.old) (S.backing store.old) (S.backing store.new) }
-    // Nothing is forced or written except for the frames that the pages take, and the log isn't stopped where a check answers.
+    // Nothing is forced or written except for the frames that the pages take, and the log isn't stopped if
+    // a check answers.
     ensures frames { AreFetched (S.state store.old) (S.memory store.old) (S.memory store.new)
         (S.backing store.old) (S.backing store.new) }
     ensures order { IsRestBut (pinned_blocks (S.state store.old).table)
@@ -91,7 +93,8 @@ pub(crate) fn check_by<
     ))
 }
 
-/// Judges parents and children too, as `check_parents` and `check_parents_one` do, where the first bad stop is found so.
+/// Judges parents and children too, as `check_parents` and `check_parents_one` do. `find` finds the first bad
+/// stop.
 pub(crate) fn check_parents_by<
     F: Fn(&Pages, bool, Option<u32>, &[Stop]) -> Option<usize>,
     S: PageStore,
@@ -102,7 +105,8 @@ pub(crate) fn check_parents_by<
     ensures steps { Continues S.follows store.old store.new }
     ensures state { S.state store.new ≡ S.state store.old }
     ensures room { KeepsRoom (S.state store.old) (S.backing store.old) (S.backing store.new) }
-    // Nothing is forced or written except for the frames that the pages take, and the log isn't stopped where a check answers.
+    // Nothing is forced or written except for the frames that the pages take, and the log isn't stopped if
+    // a check answers.
     ensures frames { AreFetched (S.state store.old) (S.memory store.old) (S.memory store.new)
         (S.backing store.old) (S.backing store.new) }
     ensures order { IsRestBut (pinned_blocks (S.state store.old).table)

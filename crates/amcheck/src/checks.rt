@@ -27,17 +27,19 @@ use page_action::PageStore;
 use std::alloc::Global;
 use std::thread::Threads;
 
-/// Judges the levels of an index and their links: a report, or the first damage. It makes its room, brings each page in use into
-/// memory once, of which `progress` is told, and changes none. The pages of a level are judged in as many threads as serve.
-/// Parents and children are not judged. Whether the index is unique is known from its format.
+/// Judges the levels of an index and their links: a report, or the first damage. It makes its room, brings
+/// each page in use into memory once, of which `progress` is told, and changes none. The pages of a level are
+/// judged in as many threads as serve. Parents and children are not judged. Whether the index is unique is
+/// known from its format.
 ///
-/// Over a device that kept its model, a report means that each level, from the root's to the leaves, is one chain of pages,
-/// linked both ways, whose bounds and entries ascend; and its numbers are those of the pages. On a unique index it also means
-/// that no page of a chain has a whole entry as a bound, or two entries of one key. On pages that are a B-link tree no damage
-/// is found, if, on a unique index, no bound is a whole entry and no two entries share a key.
+/// Over a device that kept its model, a report means that each level, from the root's to the leaves, is one
+/// chain of pages. The chain is linked both ways, and its bounds and entries ascend. The numbers of the
+/// report are those of the pages. On a unique index it also means that no page of a chain has a whole entry
+/// as a bound, or two entries of one key. On pages that are a B-link tree no damage is found, if, on a unique
+/// index, no bound is a whole entry and no two entries share a key.
 ///
-/// Refused with `NoMemory` (1), and then nothing was read; with `Io` (2), `Stopped` (3); with `NoFrame` (10) where all frames are
-/// pinned; with `PageDamaged` (17) only where the device did not keep its model.
+/// Refused with `NoMemory` (1), and then nothing was read; with `Io` (2), `Stopped` (3); with `NoFrame` (10)
+/// if all frames are pinned; with `PageDamaged` (17) only if the device did not keep its model.
 pub fn check<R: Threads + Sync, S: PageStore, P: Progress>(
     rt: &R,
     alloc: Global,
@@ -47,7 +49,8 @@ pub fn check<R: Threads + Sync, S: PageStore, P: Progress>(
     ensures steps { Continues S.follows store.old store.new }
     ensures state { S.state store.new ≡ S.state store.old }
     ensures room { KeepsRoom (S.state store.old) (S.backing store.old) (S.backing store.new) }
-    // Nothing is forced or written except for the frames that the pages take, and the log isn't stopped where a check answers.
+    // Nothing is forced or written except for the frames that the pages take, and the log isn't stopped if
+    // a check answers.
     ensures frames { AreFetched (S.state store.old) (S.memory store.old) (S.memory store.new)
         (S.backing store.old) (S.backing store.new) }
     ensures order { IsRestBut (pinned_blocks (S.state store.old).table)
@@ -86,7 +89,8 @@ pub fn check_one<S: PageStore, P: Progress>(
     ensures steps { Continues S.follows store.old store.new }
     ensures state { S.state store.new ≡ S.state store.old }
     ensures room { KeepsRoom (S.state store.old) (S.backing store.old) (S.backing store.new) }
-    // Nothing is forced or written except for the frames that the pages take, and the log isn't stopped where a check answers.
+    // Nothing is forced or written except for the frames that the pages take, and the log isn't stopped if
+    // a check answers.
     ensures frames { AreFetched (S.state store.old) (S.memory store.old) (S.memory store.new)
         (S.backing store.old) (S.backing store.new) }
     ensures order { IsRestBut (pinned_blocks (S.state store.old).table)
@@ -115,13 +119,13 @@ pub fn check_one<S: PageStore, P: Progress>(
     )
 }
 
-/// Judges the levels of an index, their links, and its parents and children: a report, or the first damage. It makes its room,
-/// brings each page in use into memory once, of which `progress` is told, and changes none. The pages of a level are judged in as
-/// many threads as serve.
+/// Judges the levels of an index, their links, and its parents and children: a report, or the first damage.
+/// It makes its room, brings each page in use into memory once, of which `progress` is told, and changes
+/// none. The pages of a level are judged in as many threads as serve.
 ///
-/// Over a device that kept its model, a report means that the pages are a B-link tree, and its numbers are those of the pages;
-/// on a unique index also that no bound is a whole entry, and that no two entries share a key. On such pages no damage is
-/// found. Refused as [`check`].
+/// Over a device that kept its model, a report means that the pages are a B-link tree, and its numbers are
+/// those of the pages; on a unique index also that no bound is a whole entry, and that no two entries share a
+/// key. On such pages no damage is found. Refused as [`check`].
 pub fn check_parents<R: Threads + Sync, S: PageStore, P: Progress>(
     rt: &R,
     alloc: Global,
@@ -131,7 +135,8 @@ pub fn check_parents<R: Threads + Sync, S: PageStore, P: Progress>(
     ensures steps { Continues S.follows store.old store.new }
     ensures state { S.state store.new ≡ S.state store.old }
     ensures room { KeepsRoom (S.state store.old) (S.backing store.old) (S.backing store.new) }
-    // Nothing is forced or written except for the frames that the pages take, and the log isn't stopped where a check answers.
+    // Nothing is forced or written except for the frames that the pages take, and the log isn't stopped if
+    // a check answers.
     ensures frames { AreFetched (S.state store.old) (S.memory store.old) (S.memory store.new)
         (S.backing store.old) (S.backing store.new) }
     ensures order { IsRestBut (pinned_blocks (S.state store.old).table)
@@ -170,7 +175,8 @@ pub fn check_parents_one<S: PageStore, P: Progress>(
     ensures steps { Continues S.follows store.old store.new }
     ensures state { S.state store.new ≡ S.state store.old }
     ensures room { KeepsRoom (S.state store.old) (S.backing store.old) (S.backing store.new) }
-    // Nothing is forced or written except for the frames that the pages take, and the log isn't stopped where a check answers.
+    // Nothing is forced or written except for the frames that the pages take, and the log isn't stopped if
+    // a check answers.
     ensures frames { AreFetched (S.state store.old) (S.memory store.old) (S.memory store.new)
         (S.backing store.old) (S.backing store.new) }
     ensures order { IsRestBut (pinned_blocks (S.state store.old).table)
@@ -199,8 +205,8 @@ pub fn check_parents_one<S: PageStore, P: Progress>(
     )
 }
 
-/// Does nothing: its clauses say that two answers on the same pages, neither refused, are equal, be they of one thread or of
-/// many; and what parents and children add.
+/// Does nothing: its clauses say that two answers on the same pages, neither refused, are equal, be they of
+/// one thread or of many; and what parents and children add.
 pub fn checks_answer_alike()
     ensures one { AnswersAreOne }
     ensures parents { ParentsSeeMore }

@@ -31,7 +31,7 @@ fn one_if_incomplete(split: bool) -> u32
     if split { 1 } else { 0 }
 }
 
-/// The report on pages that stand in so many levels.
+/// The report on pages that stand in `levels` levels.
 pub(crate) fn count_up(pages: &Pages, levels: u32) -> Report
     requires few { length pages.now ≤ 65536 }
     ensures { result ≡ report_of levels pages.now }

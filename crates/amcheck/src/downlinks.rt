@@ -1,4 +1,4 @@
-//! What is judged of the downlinks of a page of a chain, where all chains are right.
+//! What is judged of the downlinks of a page of a chain, if all chains are right.
 
 ghost use Rattle.std.specs.Prelude.{◌≡◌, ◌+◌, ◌<◌, ◌≤◌, ◌↔◌, ℕ, suc, true, false, Some, IsTrue, IfNone, IfSome, length, slice_get};
 ghost use Rattle.page_codec.specs.declared.page.Downlink.{Downlink};
@@ -108,7 +108,8 @@ fn has_wrong_bound(
     false
 }
 
-/// Whether the page of a block in use is to have no downlink: it is half-dead, or right after a page with an incomplete split.
+/// Whether the page of a block in use is to have no downlink: it is half-dead, or right after a page with an
+/// incomplete split.
 fn is_skipped(pages: &Pages, block: u32, behind: bool) -> bool
     requires { block < length pages.now }
     ensures { IsTrue result ↔ IsSkipped (nodes_of pages.now block) behind }
@@ -190,8 +191,8 @@ fn has_extra(
     false
 }
 
-/// The least number of what is wrong with a page among its parents and children, which are on the level below. If nothing
-/// is, its children are marked beside those to which earlier pages led.
+/// The least number of what is wrong with a page among its parents and children, which are on the level
+/// below. If nothing is, its children are marked beside those to which earlier pages led.
 pub(crate) fn find_parent_number(
     pages: &Pages,
     stops: &[Stop],

@@ -32,7 +32,7 @@ struct Root {
     level: u8,
 }
 
-/// The root that the metapage, the page of block 0, names. Damage 1 of block 0, where there is no page.
+/// The root that the metapage, the page of block 0, names. Damage 1 of block 0, if there is no page.
 fn find_root(pages: &Pages) -> Result<Root, Damage>
     requires stand { StandAtTheirBlocks pages.now }
     ensures named { IfOk result (λ root. NamesRoot pages.now root.block root.level) }
@@ -57,8 +57,8 @@ fn find_root(pages: &Pages) -> Result<Root, Damage>
     }
 }
 
-/// Judges parents and children, where the chains of all levels are right, and at last the pages on no chain: the first
-/// damage, if there is one. No block was noted or marked before. Nothing here depends on keys.
+/// Judges parents and children, if the chains of all levels are right, and at last the pages on no chain:
+/// the first damage, if there is one. No block was noted or marked before. Nothing here depends on keys.
 fn judge_parents(
     pages: &Pages,
     met: &Met,
@@ -131,7 +131,8 @@ pub(crate) fn judge_chains<F: Fn(&Pages, bool, Option<u32>, &[Stop]) -> Option<u
     }
 }
 
-/// Judges all pages, with parents and children: a report, or the first damage. No block was seen, met, noted or marked before.
+/// Judges all pages, with parents and children: a report, or the first damage. No block was seen, met, noted
+/// or marked before.
 pub(crate) fn judge<F: Fn(&Pages, bool, Option<u32>, &[Stop]) -> Option<usize>>(
     find: &F,
     pages: &Pages,

@@ -24,7 +24,7 @@ pub(crate) struct PageRoom {
     pub(crate) list: PageList,
 }
 
-/// Keeps a page after these, if it has downlinks: where it is kept.
+/// Keeps a page after these, if it has downlinks, and answers where it is kept.
 fn keep_links(whole: &mut Vec<Page>, page: &Page) -> Option<u32>
     requires room { length whole.old.items < vec_capacity whole.old }
     requires few { length whole.old.items < 2 ^ 32 }
@@ -42,7 +42,7 @@ fn keep_links(whole: &mut Vec<Page>, page: &Page) -> Option<u32>
 }
 
 impl PageRoom {
-    /// The room for so many pages. Refused with `NoMemory`.
+    /// The room for `used` pages. Refused with `NoMemory`.
     pub(crate) fn new(alloc: Global, used: u32) -> Result<PageRoom, Fault>
         ensures made { IfOk result (λ room. HasPageRoom room used) }
         ensures none { IfOk result (λ room. room.list.pages ≡ []) }
@@ -61,7 +61,7 @@ impl PageRoom {
         })
     }
 
-    /// Keeps one page more, where there is room for so many.
+    /// Keeps one page more, if there is room for `used` pages.
     pub(crate) fn add(&mut self, used: u32, page: &Page)
         requires room { HasPageRoom self.old used }
         requires more { length self.old.list.pages < used }

@@ -14,8 +14,8 @@ use page_codec::{Downlink, Page};
 use std::marker::Model;
 use tree_shape::links_on;
 
-/// All pages of a store, of which a sketch is kept, and of those with downlinks the page itself. Contracts see the list of the
-/// pages.
+/// All pages of a store, of which a sketch is kept, and of those with downlinks the page itself. Contracts
+/// see the list of the pages.
 #[derive(Drop)]
 pub(crate) struct Pages {
     sketches: Vec<Sketch>,

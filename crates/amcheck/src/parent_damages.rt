@@ -1,4 +1,4 @@
-//! The first damage of parents and children, where all chains are right.
+//! The first damage of parents and children, if all chains are right.
 
 ghost use Rattle.std.specs.Prelude.{◌≡◌, ◌<◌, ◌≤◌, ℕ, suc, true, false, IfNone, IfSome, length};
 ghost use Rattle.damages.specs.Damages.{index_of, IsSound, IsFirstDamage};
@@ -10,8 +10,8 @@ use crate::pages::Pages;
 use crate::report::Damage;
 use crate::stops::{Stop, low};
 
-/// The first damage at the stop at this place, with its parents and children; none at an earlier one. The blocks are marked
-/// to which those lead.
+/// The first damage at the stop at this place, with its parents and children; none at an earlier one. The
+/// blocks are marked to which those lead.
 fn damage_at(
     pages: &Pages,
     stops: &[Stop],

@@ -33,7 +33,7 @@ pub(crate) struct Room {
 }
 
 impl Room {
-    /// The room to check so many pages. Refused with `NoMemory`.
+    /// The room to check `used` pages. Refused with `NoMemory`.
     pub(crate) fn new(alloc: Global, used: u32) -> Result<Room, Fault>
         ensures made { IfOk result (λ room. RoomIsReady room used) }
         ensures fault { IfErr result (λ f. f ≡ Fault.NoMemory) }
@@ -65,8 +65,8 @@ impl Room {
     }
 }
 
-/// Reads each page in use once, and keeps what is judged of it; `progress` is told of each. Refused as [`PageStore::fetch`]: it
-/// takes no memory.
+/// Reads each page in use once, and keeps what is judged of it; `progress` is told of each. Refused as
+/// [`PageStore::fetch`]: it takes no memory.
 pub(crate) fn read_pages<S: PageStore, P: Progress>(
     store: &mut S,
     room: PageRoom,

@@ -34,8 +34,8 @@ pub enum CheckFault {
     /// 6. an entry, or a bound after the first, that isn't greater than its page's low;
     /// 7. an item's bound isn't the low of its child (of the first item: the parent's low);
     /// 8. a page below the root's level lacks its downlink;
-    /// 9. a downlink to a half-dead page, to one right after a page with an incomplete split or to one on no chain, or a
-    ///    second downlink to a page;
+    /// 9. a downlink to a half-dead page, to one right after a page with an incomplete split or to one on no
+    ///    chain, or a second downlink to a page;
     /// 10. a page too many on the root's level;
     /// 11. a page in use, neither deleted nor the metapage, on no chain;
     /// 12. a half-dead page right after one with an incomplete split;
@@ -44,7 +44,8 @@ pub enum CheckFault {
     #[error("damage {number} block {block}")]
     Damage {
         number: u8,
-        /// The page at that place; for 1 the number that is met there, for 7 and 9 the page that holds the item.
+        /// The page at that place; for 1 the number that is met there, for 7 and 9 the page that holds the
+        /// item.
         block: u32,
     },
     /// The check was refused.

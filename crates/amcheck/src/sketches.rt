@@ -20,7 +20,8 @@ pub(crate) struct Sketch {
     pub(crate) left: Option<u32>,
     pub(crate) right: Option<u32>,
     pub(crate) high: Option<Bound>,
-    /// What is to lie beyond the page's low before all others: its first entry, or the bound of its second downlink.
+    /// What is to lie beyond the page's low before all others: its first entry, or the bound of its second
+    /// downlink.
     pub(crate) least: Option<Bound>,
     /// Whether its bounds are places before all rows of a key, and no entry has the key of the one before it.
     pub(crate) unique: bool,

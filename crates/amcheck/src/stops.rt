@@ -77,8 +77,8 @@ fn is_too_low(sketch: &Sketch, low: &Option<Bound>) -> bool
     }
 }
 
-/// Whether an entry of the page, or a bound after the first, isn't greater than the low. The first entry and the second bound
-/// tell, as the others are greater.
+/// Whether an entry of the page, or a bound after the first, isn't greater than the low. The first entry and
+/// the second bound tell, as the others are greater.
 fn has_wrong_item(sketch: &Sketch, low: &Option<Bound>) -> bool
     ensures { IsTrue result ↔ (IsNoneOrBeyond low.now sketch.now.least → ⊥) }
 {

@@ -21,7 +21,7 @@ fn is_key_bound(bound: &Option<Bound>) -> bool
     }
 }
 
-/// Whether so are the bounds of all these downlinks.
+/// Whether the same holds of the bounds of all these downlinks.
 fn are_key_links(links: &[Downlink]) -> bool
     ensures { IsTrue result ↔ AllByRecursion IsKeyLink links.now }
 {
@@ -59,8 +59,8 @@ fn do_keys_ascend(entries: &[Entry]) -> bool
     true
 }
 
-/// Whether the page is one of a unique index: its high key and its bounds are places before all rows of a key, and no entry
-/// has the key of the one before it.
+/// Whether the page is one of a unique index: its high key and its bounds are places before all rows of a
+/// key, and no entry has the key of the one before it.
 pub(crate) fn is_unique(page: &Page) -> bool
     requires { IsPage page.now }
     ensures { IsTrue result ↔ IsUniquePage page.now }

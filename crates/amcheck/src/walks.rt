@@ -23,8 +23,8 @@ pub(crate) enum End {
     Met(Stop),
 }
 
-/// Walks along the chain of a level as far as its pages are of this level and new: the stops, and how it ended. Of blocks of
-/// this level none was met before.
+/// Walks along the chain of a level, as long as its pages are of this level and weren't met yet. Answers the
+/// stops, and how the walk ended. No block of this level was met before.
 pub(crate) fn walk(
     pages: &Pages,
     met: &mut Met,

@@ -8,8 +8,9 @@ use crate::pages::Pages;
 use crate::places::is_on_level;
 use crate::report::Damage;
 
-/// The leftmost page of a level, from where the way to it begins. Damage 1 where it comes to a block that is not in use or to
-/// a page of another level, and 3 where it comes back to a page. Of blocks of this level none was seen before.
+/// The leftmost page of a level, from where the way to it begins. Damage 1 if it comes to a block that is not
+/// in use or to a page of another level, and 3 if it comes back to a page. No block of this level was seen
+/// before.
 pub(crate) fn find_leftmost(
     pages: &Pages,
     seen: &mut [bool],

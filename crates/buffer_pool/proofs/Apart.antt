@@ -68,7 +68,7 @@ absent_apart pool block none =
     list_any_none (λ b. eqb b block) blocks (λ k d less. ne_eqb (get_or blocks k d) block (λ same.
     omega (arith, no_place_from pool block none, pool.placed.told k less, ap (λ (b : ℕ). get_or pool.places.items b 0) (get_or_default blocks k 0 d less ∙ same))))
 
--- where each held block is pinned, it and another that isn't held are more than are held
+-- if each held block is pinned, it and another that isn't held are more than are held
 pub pinned_more : (pool : Pool) (pinned : List ℕ) (block : ℕ) → frame_of pool block ≡ None → BlocksAreApart (blocks_in pool.pages.items)
     → All (λ b. has_block pinned b ≡ true) (blocks_in pool.pages.items) → length pool.pages.items < count_distinct (block ∷ pinned)
 pinned_more pool pinned block none apart every =

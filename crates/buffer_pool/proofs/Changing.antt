@@ -48,7 +48,7 @@ count_put acts at act less = sum_by-set one_for acts at act 0 less
 one_if : (n : ℕ) → 0 < n → one_for n ≡ 1
 one_if n less = ap {B = ℕ} (λ (t : Bool). cond t 1 0) (lt-ltb 0 n less)
 
--- where one is 0, they are fewer than all
+-- if one is 0, they are fewer than all
 pub count_short : (acts : List ℕ) (at : ℕ) → at < length acts → get_or acts at 0 ≡ 0 → count_by (ltb 0) acts < length acts
 count_short acts at less clean =
     omega (arith, count_put acts at 1 less, ap one_for clean, count_by-le-length (ltb 0) (set acts at 1), length-set acts at 1)
@@ -64,7 +64,7 @@ none_of blocks block k d not less = λ same.
 pub has_block-at : (blocks : List ℕ) (k d : ℕ) → k < length blocks → has_block blocks (get_or blocks k d) ≡ true
 has_block-at blocks k d less = list_any_at (λ b. eqb b (get_or blocks k d)) blocks k d less (eq-eqb (get_or blocks k d) (get_or blocks k d) refl)
 
--- where one stands once, it isn't among the others
+-- if one stands once, it isn't among the others
 pub has_block-remove_same : (blocks : List ℕ) (at : ℕ) → BlocksAreApart blocks → at < length blocks → has_block (remove blocks at) (get_or blocks at 0) ≡ false
 has_block-remove_same blocks at apart less =
     let block = get_or blocks at 0 in
@@ -146,7 +146,7 @@ changed_less changed blocks acts place at h less is within =
       counted = omega (arith, h.counted, length-remove changed place less, count_put acts at 0 within, one_if (get_or acts at 0) before);
     }
 
--- where as many are changed as are held, each is
+-- if as many are changed as are held, each is
 pub all_changed : (changed blocks acts : List ℕ) (at : ℕ) → AreChanged changed blocks acts → length acts ≤ length changed → at < length acts → 0 < get_or acts at 0
 all_changed changed blocks acts at h many less =
     elim (cases_lt 0 (get_or acts at 0)) [

@@ -1,4 +1,4 @@
--- What stands at a place of a list where one element is put or added.
+-- What stands at a place of a list after one element is put or added.
 use Rattle.std.proofs.Common.{◌≡◌, ◌≢◌, ℕ, zero, suc, ◌<◌, Some, List, [], ◌∷◌, ◌++◌, length, get_or, set, slice_get, refl, sym, ap, ◌∙◌, arith}
 use Rattle.buffer_pool.proofs.Imports.{get_or-map, Page, blocks_in}
 

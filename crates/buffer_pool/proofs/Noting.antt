@@ -1,4 +1,4 @@
--- What a pool holds, and what is changed of it, where a page was changed or written.
+-- What a pool holds, and what is changed of it, after a page was changed or written.
 use Rattle.std.proofs.Common.{◌≡◌, ℕ, ◌+◌, ◌<◌, ◌≤◌, Bool, true, false, ◌||◌, cond, ltb, eqb, Option, Some, None, List, [], ◌∷◌, ◌++◌, length, get_or, set, take, drop, slice_get, refl, sym, ap, subst, inl, inr, ◌∙◌, arith, length-set}
 use Rattle.buffer_pool.specs.Orders.{waiting_in}
 use Rattle.buffer_pool.proofs.Imports.{IsSome, is_some, option_and_then, remove, cases_lt, cases_Bool, ltb-true, ltb-false, le-ltb, eqb-true, cond-true, cond-false, false_from_ne_true, length-map}
@@ -151,7 +151,7 @@ written_is old new place at less is most pages places acts changed =
           (λ held. other (sym (block_there old b at (frame_back old b at held)) ∙ block_there old block at is));
     }
 
--- a block that stands once isn't both among the first so many and after them
+-- a block that stands once isn't both among the first `n` and after them
 pub take_drop_apart : (blocks : List ℕ) (n block : ℕ) → BlocksAreApart blocks → has_block (take n blocks) block ≡ true → has_block (drop n blocks) block ≡ false
 take_drop_apart blocks n block apart first =
     false_from_ne_true (has_block (drop n blocks) block) (λ second.
@@ -165,7 +165,7 @@ take_drop_apart blocks n block apart first =
     sym (get_or-drop n blocks b.0 block) ∙ (get_or_default (drop n blocks) b.0 block b.1 b.2 ∙ (b.3 ∙ eqb-true b.1 block b.4)) in
     apart a.0 (n + b.0) block (omega (arith, short)) less (one ∙ sym two))
 
--- a block that isn't among the first so many, is among all or none where it is after them
+-- a block that isn't among the first `n` is among all exactly if it is after them
 pub behind_is : (blocks : List ℕ) (n block : ℕ) → has_block (take n blocks) block ≡ false → has_block (drop n blocks) block ≡ has_block blocks block
 behind_is blocks n block off =
     sym (ap (λ (xs : List ℕ). has_block xs block) (sym (take-append-drop n blocks))
@@ -174,7 +174,7 @@ behind_is blocks n block off =
 none_below : (n : ℕ) → ltb 0 n ≡ false → n ≡ 0
 none_below n off = omega (arith, ltb-false 0 n off)
 
--- an act that is kept where it isn't 0, and is 0 only where it was, is kept
+-- an act that is kept if it isn't 0, and is 0 only if it was, is kept
 either_act : (new old : ℕ) → (0 < new → new ≡ old) → ltb 0 new ≡ ltb 0 old → new ≡ old
 either_act new old kept same =
     elim (cases_lt 0 new) [
@@ -182,7 +182,7 @@ either_act new old kept same =
       | inr ge ↦ omega (arith, ge, ltb-false 0 old (sym same ∙ le-ltb 0 new ge))
     ]
 
--- the first so many changed pages were written
+-- the first `count` changed pages were written
 pub many_written : (old new : Pool) (count : ℕ) → new.most ≡ old.most → new.pages.items ≡ old.pages.items → new.places.items ≡ old.places.items
     → (waiting_in new.changed) ≡ drop count (waiting_in old.changed)
     → ((at : ℕ) → 0 < get_or new.acts.items at 0 → get_or new.acts.items at 0 ≡ get_or old.acts.items at 0) → AreWritten old new count
@@ -206,7 +206,7 @@ many_written old new count most pages places changed kept =
       ];
     }
 
--- each of the first so many changed pages has a place
+-- each of the first `count` changed pages has a place
 pub first_placed : (pool : Pool) (count : ℕ) (changed : List ℕ) (k d : ℕ) → changed ≡ (waiting_in pool.changed) → k < length (take count changed)
     → (0 < get_or pool.places.items (get_or (take count changed) k d) 0) × (get_or pool.places.items (get_or (take count changed) k d) 0 ≤ length pool.acts.items)
 first_placed pool count changed k d is less =

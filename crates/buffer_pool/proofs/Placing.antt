@@ -8,7 +8,7 @@ abbrev pub as_frame : ℕ → Option ℕ
 as_frame zero = None
 as_frame (suc at) = Some at
 
--- the act of the frame that a place stands for; 0 where it stands for none
+-- the act of the frame that a place stands for; 0 if it stands for none
 abbrev pub act_by : List ℕ → ℕ → ℕ
 act_by acts zero = 0
 act_by acts (suc at) = get_or acts at 0
@@ -17,7 +17,7 @@ pub place_cases : (place : ℕ) → (place ≡ 0) ⊎ ((at : ℕ) × (place ≡ 
 place_cases zero = inl refl
 place_cases (suc at) = inr (at, refl)
 
--- where the first block that is this one stands at `at`, that is its frame
+-- if the first block that is this one stands at `at`, that is its frame
 found_at : (blocks : List ℕ) (block at : ℕ) → position_or_len (λ b. eqb b block) blocks ≡ at → at < length blocks → frame_in blocks block ≡ Some at
 found_at blocks block at is less =
     let first = position_or_len (λ b. eqb b block) blocks in
@@ -107,7 +107,7 @@ placed_push places blocks new h absent less = record {
   ];
 }
 
--- a place that is left where one was cleared, is not of the block that was cleared
+-- a place that is left after one was cleared, is not of the block that was cleared
 cleared_place : (places : List ℕ) (old block at : ℕ) → get_or (set places old 0) block 0 ≡ suc at → block ≢ old
 cleared_place places old block at is = λ e.
     elim (cases_lt old (length places)) [

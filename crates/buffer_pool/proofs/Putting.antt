@@ -1,4 +1,4 @@
--- What a pool holds where a page came into a frame.
+-- What a pool holds after a page came into a frame.
 use Rattle.std.proofs.Common.{◌≡◌, ◌≢◌, ℕ, suc, max, ◌<◌, cond, ltb, Some, None, List, [], ◌∷◌, ◌++◌, length, get_or, set, slice_get, refl, sym, ap, subst, inl, inr, ◌∙◌, arith, length-set, get_or-set_other, get_or-set_same}
 use Rattle.buffer_pool.specs.Orders.{waiting_in}
 use Rattle.buffer_pool.proofs.Imports.{cases_eq, cases_lt, get_or_push, get_or_append_left, length_push, length-map, map-set, map_push, sum_by_push, count_by, Page, Pool, blocks_in, act_in}
@@ -43,7 +43,7 @@ same_frame old new block same =
       | inr p ↦ frame_from new block p.0 (same ∙ p.1) ∙ sym (frame_from old block p.0 p.1)
     ]
 
--- the page of a block stays where its frame and the page in it stay
+-- the page of a block stays if its frame and the page in it stay
 pub same_page : (old new : Pool) (block : ℕ) → frame_of new block ≡ frame_of old block
     → ((at : ℕ) → frame_of old block ≡ Some at → page_at new at ≡ page_at old at) → held_page new block ≡ held_page old block
 same_page old new block same pages =
@@ -56,7 +56,7 @@ pub no_act : (pool : Pool) (block : ℕ) → frame_of pool block ≡ None → ac
 unfolding frame_of act_of
 no_act pool block is = act_none (blocks_in pool.pages.items) pool.acts.items block is
 
--- what is held where a page came into a frame, was held before
+-- what is held after a page came into a frame, was held before
 was_held : (old new : Pool) (at block : ℕ) (other : Page)
     → (frame_of old block ≢ Some at → held_page new block ≡ held_page old block) → (frame_of old block ≡ Some at → held_page new block ≡ None)
     → held_page new block ≡ Some other → held_page old block ≡ Some other
@@ -117,7 +117,7 @@ taken_clean pool at h less =
       | inr ge ↦ omega (arith, ge, act_from pool block at is)
     ]
 
--- what is changed stays so where each block's act does
+-- what is changed stays so if each block's act does
 pub changed_stays : (changed blocks acts blocks' acts' : List ℕ) → AreChanged changed blocks acts → ((block : ℕ) → act_in blocks' acts' block ≡ act_in blocks acts block)
     → count_by (ltb 0) acts' ≡ count_by (ltb 0) acts → AreChanged changed blocks' acts'
 changed_stays changed blocks acts blocks' acts' h same count = record {
@@ -128,7 +128,7 @@ changed_stays changed blocks acts blocks' acts' h same count = record {
 
 module _ (places blocks : List ℕ) (at new next : ℕ) (h : ArePlaces places blocks) (less : at < length blocks) (absent : get_or places new 0 ≡ 0)
     (within : new < length places) (next_is : next ≡ suc at) where
-  -- the places where the frame of one block is given to another
+  -- the places after the frame of one block is given to another
   abbrev given : List ℕ
   given = set (set places (get_or blocks at 0) 0) new next
 
@@ -213,7 +213,7 @@ module _ (pool : Pool) (at : ℕ) (was page : Page) (next : ℕ) (less : at < le
   in_blocks : at < length blocks
   in_blocks = omega (arith, less, length-map pool.pages.items (λ (p : Page). p.block))
 
-  -- the places where the frame of a page is given to another
+  -- the places after the frame of a page is given to another
   abbrev replaced : List ℕ
   replaced = set (set pool.places.items was.block 0) page.block next
 

@@ -148,7 +148,7 @@ clean_free pool pinned at less clean off = record {
       let both : false ≡ true = sym off ∙ (ap (has_block pinned) (block_there pool block at there) ∙ pin) in absurd cc;
 }
 
--- where as many pages are changed as are held, no block's page is clean
+-- if as many pages are changed as are held, no block's page is clean
 pub none_clean : (pool : Pool) (pinned : List ℕ) → length (waiting_in pool.changed) ≡ length pool.pages.items → AreCleanPinned pool pinned
 none_clean pool pinned full =
     all_blocks pool (λ b. act_of pool b ≡ 0 → has_block pinned b ≡ true) (λ at less clean.
@@ -159,7 +159,7 @@ none_clean pool pinned full =
       all_changed (waiting_in pool.changed) (blocks_in pool.pages.items) pool.acts.items at pool.ordered (omega (arith, full, pool.many_acts)) (omega (arith, less, pool.many_acts)),
     )))
 
--- where each clean frame is pinned, each clean page is
+-- if each clean frame is pinned, each clean page is
 pub clean_pinned : (pool : Pool) (pinned : List ℕ)
     → ((at : ℕ) → at < length pool.pages.items → get_or pool.acts.items at 0 ≡ 0 → has_block pinned (get_or (blocks_in pool.pages.items) at 0) ≡ true)
     → AreCleanPinned pool pinned
@@ -167,7 +167,7 @@ clean_pinned pool pinned each =
     all_blocks pool (λ b. act_of pool b ≡ 0 → has_block pinned b ≡ true)
     (λ at less clean. each at less (sym (held_act pool _ at (frame_of_block pool at less)) ∙ clean))
 
--- where no block of a list passes, none of those in it does
+-- if no block of a list passes, none of those in it does
 pub none_passes : (p : ℕ → Bool) (blocks : List ℕ) (block : ℕ) → position p blocks ≡ None → has_block blocks block ≡ true → p block ≡ false
 none_passes p blocks block none is =
     let there = Any-from_list_any (λ b. eqb b block) blocks is in
@@ -178,7 +178,7 @@ none_passes p blocks block none is =
       | inr ge ↦ ap p (sym same) ∙ fails_before_first p blocks there.0 there.1 (omega (arith, there.2, ltb-false first (length blocks) ge))
     ]
 
--- where each clean page is pinned, and each changed one, each is
+-- if each clean page is pinned, and each changed one, each is
 pub all_pinned : (pool : Pool) (pinned : List ℕ) → AreCleanPinned pool pinned
     → position (λ b. not (has_block pinned b)) (waiting_in pool.changed) ≡ None → All (λ b. has_block pinned b ≡ true) (pool_blocks pool)
 unfolding pool_blocks act_of
@@ -192,7 +192,7 @@ all_pinned pool pinned clean none = λ k d less.
       | inr ge ↦ clean k d less (omega (arith, ge))
     ]
 
--- a frame stays free where only the hand moves
+-- a frame stays free if only the hand moves
 pub free_stays : (old new : Pool) (pinned : List ℕ) (at : ℕ) → HasSamePages old new → HasSameChanges old new → IsFreeFrame old pinned at → IsFreeFrame new pinned at
 free_stays old new pinned at pages changes h = record {
   taken = record {
@@ -213,7 +213,7 @@ found_free pool pinned acts pages (Some at) same_acts same within clean off =
     (ap (λ (xs : List ℕ). get_or xs at 0) (sym same_acts) ∙ clean)
     (ap (λ (ps : List Page). has_block pinned (get_or (blocks_in ps) at 0)) (sym same) ∙ off)
 
--- where nothing was found, each clean page is pinned
+-- if nothing was found, each clean page is pinned
 pub found_none : (pool : Pool) (pinned acts : List ℕ) (pages : List Page) (found : Option ℕ) → acts ≡ pool.acts.items → pages ≡ pool.pages.items
     → IfNone found ((at : ℕ) → at < length acts → get_or acts at 0 ≡ 0 → has_block pinned (get_or (blocks_in pages) at 0) ≡ true)
     → IfNone found (AreCleanPinned pool pinned)

@@ -7,7 +7,7 @@ use Rattle.buffer_pool.proofs.Imports.{move_index, position-Some, has_block}
 use Rattle.buffer_pool.proofs.Changing.{has_block-at}
 use lib.Seq.{ext_get_or}
 
--- so many, from a place on
+-- `count` of these, from a place on
 abbrev pub window : List ℕ → ℕ → ℕ → List ℕ
 window keys first count = take count (drop first keys)
 
@@ -33,7 +33,7 @@ module _ (keys : List ℕ) (first count : ℕ) (within : first + count ≤ lengt
       let there : get_or (window keys first count) k 0 ≡ get_or keys at 0 = window_at k (omega (arith, from, to)) ∙ ap (λ (n : ℕ). get_or keys n 0) (omega (arith, from)) in
       ap (has_block (window keys first count)) (sym there) ∙ has_block-at (window keys first count) k 0 (omega (arith, window_long, from, to))
 
--- where all wait, each is among them
+-- if all wait, each is among them
 pub all_wait : (keys : List ℕ) (first count b : ℕ) → first + count ≤ length keys → length keys ≤ count → has_block keys b ≡ true → has_block (window keys first count) b ≡ true
 all_wait keys first count b within long among =
     let none : first ≡ 0 = omega (arith, within, long) in
@@ -127,7 +127,7 @@ module _ (keys : List ℕ) (first count place : ℕ) (within : first + count ≤
       let few : k < count - 1 = omega (arith, below, short) in
       window_at after (first + 1) (count - 1) inside k few ∙ (ap (λ (l : List ℕ). get_or l (first + 1 + k) 0) is ∙ (moved_at k few ∙ left_at k few)))
 
--- the first so many left
+-- the window without its first `more`
 pub dropped : (keys : List ℕ) (first count more : ℕ) → first + count ≤ length keys → more ≤ count → window keys (first + more) (count - more) ≡ drop more (window keys first count)
 dropped keys first count more within few =
     let inside : first + more + (count - more) ≤ length keys = omega (arith, within, few) in

@@ -11,7 +11,7 @@ pub record IsFreeFrame (pool : Pool) (pinned : List ℕ) (at : ℕ) : Type 0 whe
   pub taken : CanBeTaken pool at
   pub unpinned : (block : ℕ) → has_block pinned block ≡ true → frame_of pool block ≢ Some at
 
--- the frame is free; where some are unused, it is the next of those
+-- the frame is free; if some are unused, it is the next of those
 pub record IsFreeFirst (pool : Pool) (pinned : List ℕ) (at : ℕ) : Type 0 where
   pub free : IsFreeFrame pool pinned at
   pub unused : pool_count pool < most_of pool → at ≡ pool_count pool
@@ -40,7 +40,7 @@ pub record AreAllPinned (pool : Pool) (pinned : List ℕ) : Type 0 where
   pub every : All (λ b. has_block pinned b ≡ true) (pool_blocks pool)
   pub more : (block : ℕ) → frame_of pool block ≡ None → most_of pool < count_distinct (block ∷ pinned)
 
--- what is chosen where these blocks are pinned
+-- what is chosen while these blocks are pinned
 abbrev pub IsChoice : Pool → List ℕ → Choice → Type 0
 IsChoice pool pinned (Free at) = IsFreeFirst pool pinned at
 IsChoice pool pinned (Oldest place block act) = IsOldest pool pinned place block act

@@ -20,7 +20,8 @@ BlocksAreApart blocks = AllPairs (λ a b. a ≢ b) blocks
 abbrev pub frame_in : List ℕ → ℕ → Option ℕ
 frame_in blocks block = position (λ b. b == block) blocks
 
--- the act that changed the block's page last, by the acts of each frame; 0 where none did or no frame holds it
+-- the act that changed the block's page last, by the acts of each frame; 0 if none did or no frame holds
+-- it
 abbrev pub act_in : List ℕ → List ℕ → ℕ → ℕ
 act_in blocks acts block = option_map_or (slice_index acts) (frame_in blocks block) 0
 

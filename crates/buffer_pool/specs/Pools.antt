@@ -35,7 +35,8 @@ unfoldable pub held_page : Pool → ℕ → Option Page
 held_page pool block =
     option_and_then (slice_get pool.pages.items) (frame_in (blocks_in pool.pages.items) block)
 
--- the act that changed the held page of the block last; 0 where it is as it was last read or written, or isn't held
+-- the act that changed the held page of the block last; 0 if it is as it was last read or written, or
+-- isn't held
 unfoldable pub act_of : Pool → ℕ → ℕ
 act_of pool block = act_in (blocks_in pool.pages.items) pool.acts.items block
 
@@ -106,7 +107,7 @@ pub record IsWritten (old new : Pool) (place : ℕ) : Type 0 where
   pub others : (block : ℕ) → block ≢ slice_index (changed_of old) place
       → act_of new block ≡ act_of old block
 
--- so many pages, the first of the order, were written
+-- the first `count` pages of the order were written
 pub record AreWritten (old new : Pool) (count : ℕ) : Type 0 where
   pub pages : HasSamePages old new
   pub order : changed_of new ≡ drop count (changed_of old)

@@ -25,7 +25,7 @@ fn clean_frames(acts: &mut [u64], places: &[u32], written: &[u32])
     ensures many { length acts.new ≡ length acts.old }
     ensures kept { (at : ℕ) → 0 < slice_index acts.new at
         → slice_index acts.new at ≡ slice_index acts.old at }
-    // Whatever blocks the frames hold: where these and others were changed, the others are left.
+    // Whatever blocks the frames hold: if these and others were changed, the others are left.
     ensures left { (blocks others : List ℕ) → ArePlaces places.now blocks
         → AreChanged (written.now ++ others) blocks acts.old → AreChanged others blocks acts.new }
 {
@@ -56,8 +56,8 @@ impl Pool {
         self.changed.len()
     }
 
-    /// The block at this place, from 0 on, of the order in which the changed pages were first changed, and the act that
-    /// changed it last.
+    /// The block at this place, from 0 on, of the order in which the changed pages were first changed, and
+    /// the act that changed it last.
     pub fn changed_at(&self, place: usize) -> Option<(u32, u64)>
         ensures block { option_map (λ c. c.0) result ≡ slice_get (changed_of self.now) place }
         ensures act { IfSome result (λ c. c.1 ≡ act_of self.now c.0) }
@@ -70,7 +70,8 @@ impl Pool {
         Some((block, self.act(block)))
     }
 
-    /// The block of the page that was changed first, and the act that changed it last; none where no page is changed.
+    /// The block of the page that was changed first, and the act that changed it last; none if no page is
+    /// changed.
     pub fn oldest(&self) -> Option<(u32, u64)>
         ensures block { option_map (λ c. c.0) result ≡ slice_get (changed_of self.now) 0 }
         ensures act { IfSome result (λ c. c.1 ≡ act_of self.now c.0) }
@@ -97,8 +98,8 @@ impl Pool {
         self.acts[self.frame(block)]
     }
 
-    /// Takes a copy of the page for the one of its block that is held, as this act, counted from 1, has changed it. Its
-    /// block comes last in the order of the changed ones, unless it stands there.
+    /// Takes a copy of the page for the one of its block that is held, as this act, counted from 1, has
+    /// changed it. Its block comes last in the order of the changed ones, unless it stands there.
     pub fn change(&mut self, page: &Page, act: u64)
         requires held { IsSome (frame_of self.old page.now.block) }
         requires act { 0 < act }
@@ -121,7 +122,8 @@ impl Pool {
         self.acts[at] = 0;
     }
 
-    /// The first so many changed pages of the order were written: they are clean, and the others keep their order.
+    /// The first `count` changed pages of the order were written: they are clean, and the others keep their
+    /// order.
     #[tactic(auto, unfolding(crate::specs::Pools::changed_of))]
     pub fn note_first_written(&mut self, count: usize)
         requires count { count ≤ length (changed_of self.old) }

@@ -11,8 +11,8 @@ use page_codec::Page;
 pub enum Choice {
     /// This frame may be taken: the next unused one, or one with a clean page that isn't pinned.
     Free(usize),
-    /// Each clean page is pinned. The page that was changed first of those that aren't is to be written: its place in the
-    /// order of the changed ones, from 0 on, its block, and the act that changed it last.
+    /// Each clean page is pinned. The page that was changed first of those that aren't is to be written: its
+    /// place in the order of the changed ones, from 0 on, its block, and the act that changed it last.
     Oldest(usize, u32, u64),
     /// Each page is pinned, and no frame is unused.
     AllPinned,
@@ -31,8 +31,8 @@ fn is_free(acts: &[u64], pages: &[Page], pinned: &[u32], at: usize) -> bool
     acts[at] == 0 && !pinned.contains(&pages[at].block)
 }
 
-// The first of these frames whose page is clean, isn't pinned, and wasn't looked at since the hand passed it. The hand passes
-// those before it.
+// The first of these frames whose page is clean, isn't pinned, and wasn't looked at since the hand passed it.
+// The hand passes those before it.
 fn unused_between(
     acts: &[u64],
     pages: &[Page],
@@ -114,8 +114,9 @@ impl Pool {
     ghost use Rattle.buffer_pool.specs.Pools.{HasSamePages, HasSameChanges};
     ghost use Rattle.buffer_pool.specs.Choices.{AreCleanPinned, IsFreeFrame, IsChoice};
 
-    /// Which frame may be taken for another page where the pages of these blocks are pinned, or which page is to be written
-    /// first. No page is taken from its frame yet: only the hand moves, which goes round over the frames.
+    /// Which frame may be taken for another page while the pages of these blocks are pinned, or which page is
+    /// to be written first. No page is taken from its frame yet: only the hand moves, which goes round over
+    /// the frames.
     pub fn choose(&mut self, pinned: &[u32]) -> Choice
         ensures choice { IsChoice self.new pinned.now result }
         ensures pages { HasSamePages self.old self.new }
@@ -138,8 +139,8 @@ impl Pool {
         }
     }
 
-    // A frame whose page is clean and isn't pinned: the first from the hand on that nobody looked at since the hand passed
-    // it, where there is one.
+    // A frame whose page is clean and isn't pinned: the first from the hand on that nobody looked at since
+    // the hand passed it, if there is one.
     fn free_frame(&mut self, pinned: &[u32]) -> Option<usize>
         ensures found { IfSome result (IsFreeFrame self.new pinned.now) }
         ensures none { IfNone result (AreCleanPinned self.new pinned.now) }
@@ -155,7 +156,8 @@ impl Pool {
         }
     }
 
-    // The first frame from the hand on whose page is clean, isn't pinned, and wasn't looked at since the hand passed it.
+    // The first frame from the hand on whose page is clean, isn't pinned, and wasn't looked at since the hand
+    // passed it.
     fn unused_frame(&mut self, pinned: &[u32]) -> Option<usize>
         ensures found { IfSome result (IsFreeFrame self.new pinned.now) }
         ensures pages { HasSamePages self.old self.new }

@@ -7,13 +7,13 @@ use index_model::Fault;
 use indexmap::IndexSet;
 use std::alloc::Global;
 
-/// Some of the blocks below a number, in an order. It takes no memory once it is made, since its set never loses a key: those
-/// that wait stand side by side somewhere in it.
+/// Some of the blocks below a number, in an order. It takes no memory once it is made, because its set never
+/// loses a key: those that wait stand side by side somewhere in it.
 #[derive(Drop)]
 pub(crate) struct Order {
     // Each block, once.
     blocks: IndexSet<u32>,
-    // From here on so many wait.
+    // From here on `count` blocks wait.
     first: usize,
     count: usize,
     ghost within: { first + count ≤ index_set_len blocks },
@@ -26,7 +26,8 @@ impl Order {
     ghost use Rattle.buffer_pool.specs.Frames.{has_block};
     ghost use Rattle.buffer_pool.specs.Orders.{waiting_in, width_of};
 
-    /// Room for the blocks below this number, of which none waits. Refused with `NoMemory` where it cannot be had.
+    /// Room for the blocks below this number, of which none waits. Refused with `NoMemory` if it cannot be
+    /// had.
     pub fn new(alloc: Global, width: u32) -> Result<Order, Fault>
         ensures none { IfOk result (λ order. waiting_in order ≡ []) }
         ensures width { IfOk result (λ order. width_of order ≡ width) }
@@ -83,7 +84,7 @@ impl Order {
         }
     }
 
-    // Where those that wait stand at the end of the set, moves them to its beginning.
+    // If those that wait stand at the end of the set, moves them to its beginning.
     fn make_room(&mut self)
         requires few { length (waiting_in self.old) < width_of self.old }
         ensures waiting { waiting_in self.new ≡ waiting_in self.old }
@@ -119,7 +120,7 @@ impl Order {
         self.count -= 1;
     }
 
-    /// Takes the first so many out of it.
+    /// Takes the first `count` blocks out of it.
     pub fn drop_first(&mut self, count: usize)
         requires { count ≤ length (waiting_in self.old) }
         ensures waiting { waiting_in self.new ≡ drop count (waiting_in self.old) }

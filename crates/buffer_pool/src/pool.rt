@@ -9,7 +9,8 @@ use index_model::Fault;
 use page_codec::Page;
 use std::alloc::Global;
 
-/// At most so many pages, each of another block, and of each whether it was changed since it was last read or written.
+/// A bounded number of pages, each of another block, and of each whether it was changed since it was last
+/// read or written.
 #[derive(Drop)]
 pub struct Pool {
     // The page in each frame that is in use.
@@ -41,8 +42,8 @@ impl Pool {
     ghost use Rattle.std.specs.Prelude.{[], ℕ, ◌<◌, None, Some, IfSome, IfNone, IfOk, IfErr, is_some};
     ghost use Rattle.buffer_pool.specs.Pools.{most_of, reach_of, pool_count, page_at, frame_of, held_page, changed_of, CanBeTaken, HasSamePages, HasSameChanges, IsPut, IsPool};
 
-    /// A pool of so many frames, for pages of the blocks below `pages`, that holds none. Refused with `NoMemory` where
-    /// the room cannot be had.
+    /// A pool of `frames` frames, for pages of the blocks below `pages`, that holds none. Refused with
+    /// `NoMemory` if the room cannot be had.
     #[tactic(auto, unfolding(crate::specs::Pools::most_of, crate::specs::Pools::reach_of, crate::specs::Pools::pool_count, crate::specs::Pools::held_page, crate::specs::Pools::changed_of))]
     pub fn new(alloc: Global, frames: u32, pages: u32) -> Result<Pool, Fault>
         ensures most { IfOk result (λ pool. most_of pool ≡ frames) }
@@ -106,7 +107,8 @@ impl Pool {
         self.places.len()
     }
 
-    /// The frame that holds the page of the block, by one look; none where that isn't held. Any number may be asked for.
+    /// The frame that holds the page of the block, by one look; none if that isn't held. Any number may be
+    /// asked for.
     pub fn find(&self, block: u32) -> Option<usize>
         ensures frame { result ≡ frame_of self.now block }
         ensures within { IfSome result (λ at. at < pool_count self.now) }
@@ -121,8 +123,8 @@ impl Pool {
         if place == 0 { None } else { Some(place - 1) }
     }
 
-    /// Whether the page of the block is held, by one look. If so, it's noted that somebody looked at it, so that its frame
-    /// isn't among the next to be taken. Any number may be asked for.
+    /// Whether the page of the block is held, by one look. If so, it's noted that somebody looked at it, so
+    /// that its frame isn't among the next to be taken. Any number may be asked for.
     pub fn note_use(&mut self, block: u32) -> bool
         ensures held { result ≡ is_some (frame_of self.old block) }
         ensures pages { HasSamePages self.old self.new }
@@ -146,8 +148,8 @@ impl Pool {
         &self.pages[at]
     }
 
-    /// Takes a frame, the next unused one or one whose page is clean, for a copy of a page whose block isn't held, which is
-    /// clean then. What the frame held is held no more; all else is held as before.
+    /// Takes a frame, the next unused one or one whose page is clean, for a copy of a page whose block isn't
+    /// held, which is clean then. What the frame held is held no more; all else is held as before.
     #[tactic(auto, unfolding(crate::specs::Pools::pool_count, crate::specs::Pools::most_of))]
     pub fn put(&mut self, at: usize, page: &Page)
         requires taken { CanBeTaken self.old at }

@@ -87,7 +87,7 @@ module _ (st : State) (start : ℕ) (clear : Bool) (aim : SearchKey) (to most : 
             trail = subst (HasTrail st start child.level child.block) (sym down.1) (trail_begins_here st start child.level (aim_of aim) clear child.block h place);
           }
 
--- where no page has an incomplete split, from a page that covers what is looked for
+-- if no page has an incomplete split, from a page that covers what is looked for
 module _ (st : State) (aim : SearchKey) (to : ℕ) (page : Page) (position : Position) (h : HasTree st) (whole : NoneIsIncomplete st.pages) (found : slice_get st.pages position.block ≡ Some page)
     (cover : HasCover st position.level (aim_of aim) position.block) where
   cover_block : page.block ≡ position.block

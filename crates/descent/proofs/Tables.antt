@@ -42,7 +42,8 @@ any_excluded (l ∷ latches) block asked h =
 true_false : true ≡ false → ⊥
 true_false h = cc
 
--- no two sessions hold what excludes each other, where only one session's holding is another, and that keeps apart from the others'
+-- no two sessions hold what excludes each other, if only one session's holding is another, and that keeps
+-- apart from the others'
 pub apart_with : (table : Table) (session : ℕ) (holding : Holding) → session < length table → AreApart table
     → ((other block : ℕ) → other ≢ session → latches_exclude holding.latches block Shared ≡ true → latches_exclude (holding_of table other).latches block Exclusive ≡ false)
     → ((other block : ℕ) → other ≢ session → HoldsAlone table other block → latches_exclude holding.latches block Exclusive ≡ false)
@@ -86,7 +87,7 @@ out_of_table [] other le = refl
 out_of_table (h ∷ table) zero le = absurd (omega arith)
 out_of_table (h ∷ table) (suc other) le = out_of_table table other (omega arith)
 
--- where nothing of another's excludes a latch, its latches don't
+-- if nothing of another's excludes a latch, its latches don't
 pub free_of : (table : Table) (session block : ℕ) (mode : Mode) (other : ℕ) → other ≢ session → is_held_by_another table session block mode ≡ false
     → latches_exclude (holding_of table other).latches block mode ≡ false
 free_of table session block mode other differ free =

@@ -35,7 +35,7 @@ pub apart_few : (blocks pins : List ℕ) → count_apart (blocks ++ pins) ≤ le
 apart_few [] pins = omega arith
 apart_few (b ∷ blocks) pins = counted_one (has_pin (blocks ++ pins) b) (count_apart (blocks ++ pins)) (length blocks) (count_apart pins) (apart_few blocks pins)
 
--- with so many blocks the frames fall short, so they fall short of so many
+-- if the frames fall short of these blocks, they fall short of `most`
 pub frames_short : (frames : ℕ) (blocks pins : List ℕ) (most : ℕ) → length blocks ≤ most → nat_lt frames (count_apart (blocks ++ pins)) ≡ true → nat_lt frames (most + count_apart pins) ≡ true
 frames_short frames blocks pins most le h =
     let few = apart_few blocks pins in
@@ -73,7 +73,7 @@ read_cause st first second third session images frames takes splits block fault 
 pub no_room_later : (first second third : Backing) (images : List ℕ) → second.promised ≡ first.promised → lacks_room second third images ≡ true → lacks_room first third images ≡ true
 no_room_later first second third images promised h = subst (λ (n : ℕ). (nat_le n (length images) && nat_lt third.room (count_new third.waiting images)) ≡ true) promised h
 
--- where nothing is written, there is room
+-- if nothing is written, there is room
 pub room_for_none : (old new : Backing) → lacks_room old new [] ≡ true → ⊥
 room_for_none old new h = (let k : new.room < 0 = ltb-true new.room 0 (and_parts (nat_le old.promised 0) (nat_lt new.room 0) h).1 in omega arith)
 
@@ -169,7 +169,7 @@ few_frames : (images : List ℕ) → length images ≤ frames_for images
 few_frames [] = omega arith
 few_frames (block ∷ images) = omega arith
 
--- ... where each of them may need a frame
+-- ... if each of them may need a frame
 pub act_cause_of : (st : State) (first second third : Backing) (session : ℕ) (images : List ℕ) (takes splits : Bool) (changed : List Page) (fault : Fault)
     → first.failures ≤ second.failures → (second.stopped ≡ true → first.stopped ≡ true) → second.promised ≡ first.promised → map (λ (page : Page). page.block) changed ≡ images
     → HasCause (causes_of_acting st second third changed) fault → HasCause (causes_of_working st first third session images (frames_for images) takes splits) fault
@@ -196,7 +196,7 @@ pub full_cause : (st : State) (first third : Backing) (session : ℕ) (images : 
     → HasCause (causes_of_working st first third session images frames true splits) IndexFull
 full_cause st first third session images frames splits full = rw (le-leb st.limits.pages (length st.pages) full.used, none_below st (length st.pages) full.none) refl
 
--- the first number that is so, where none below is
+-- the first number that is so, if none below is
 first_is : (is : ℕ → Bool) (n at : ℕ) → ((b : ℕ) → b < at → is b ≡ false) → at ≤ n → (at < n → is at ≡ true) → first_below is n ≡ at
 first_is is zero at none le so = omega arith
 first_is is (suc n) at none le so = elim (cases_lt n at) [
@@ -230,7 +230,7 @@ keeps_room_on st first second third up few one two = record {
   idle = λ h. two.idle (omega (arith, h)) ∙ one.idle h;
 }
 
--- what is a cause where some calls were made before is one from before these
+-- what is a cause if some calls were made before is one from before these
 pub working_later : (st : State) (first second third : Backing) (session : ℕ) (images : List ℕ) (frames : ℕ) (takes splits : Bool) (fault : Fault)
     → first.failures ≤ second.failures → (second.stopped ≡ true → first.stopped ≡ true) → second.promised ≡ first.promised
     → HasCause (causes_of_working st second third session images frames takes splits) fault → HasCause (causes_of_working st first third session images frames takes splits) fault
@@ -269,7 +269,7 @@ read_pinned_cause st first third session images frames takes splits block LogFul
 read_pinned_cause st first third session images frames takes splits block TooTall honest used pin h = absurd cc
 read_pinned_cause st first third session images frames takes splits block fault honest used pin h = h
 
--- ... where the calls before them left the state and the backing as they were
+-- ... if the calls before them left the state and the backing as they were
 pub rooms_kept : (st started mid : State) (first begun second third : Backing) → started ≡ st → mid ≡ started → begun ≡ first → IsLater begun second → second.durable ≤ mid.acts
     → KeepsRoom started begun second → KeepsRoom mid second third → KeepsRoom st first third
 rooms_kept st started mid first begun second third is_st is_mid was later few one two =

@@ -18,7 +18,7 @@ use Rattle.descent.specs.declared.position.Position.{Position}
 abbrev pub position_from : ℕ → ℕ → Position
 position_from block level = record { block = block; level = level; moves = 0 }
 
--- the way to the right of a page, unless so many moves were made
+-- the way to the right of a page, unless `most` moves were made
 abbrev pub right_from : Option ℕ → Position → ℕ → Option Position
 right_from None position most = None
 right_from (Some r) position most = if nat_lt position.moves most then Some
@@ -55,13 +55,13 @@ LeadsToNext st start aim clear to position (Some (Going on)) = IsOnDescent st st
 LeadsToNext st start aim clear to position (Some Here) = (position.level ≡ to) × HasCover st to aim position.block
 LeadsToNext st start aim clear to position None = ⊥
 
--- one level down, or one move right, of which there are so many
+-- one level down, or one move right, of which there are `most` at most
 pub record IsShorter (to most : ℕ) (position on : Position) : Type 0 where
   pub not_below : to ≤ on.level
   pub shorter : (on.level < position.level) ⊎
       ((on.level ≡ position.level) × ((on.moves ≡ suc position.moves) × (on.moves ≤ most)))
 
--- how many more pages a way leads over, at most, with so many moves on each level
+-- how many more pages a way leads over, at most, with `most` moves on each level
 abbrev pub way_left : ℕ → Position → ℕ
 way_left most position = position.level * (most + 4) + suc ((most + 2) - position.moves)
 
@@ -80,7 +80,7 @@ pub record IsArrived (page : Page) (aim : Bound → Bool) : Type 0 where
   pub alive : page.state ≡ Live
   pub within : is_within aim page.high ≡ true
 
--- where no page has an incomplete split, a page that covers what is looked for leads down at once to one that
+-- if no page has an incomplete split, a page that covers what is looked for leads down at once to one that
 -- does too
 abbrev pub LeadsStraight : State → (Bound → Bool) → ℕ → Position → Option NextPage → Type 0
 LeadsStraight st aim to position (Some (Going on)) =

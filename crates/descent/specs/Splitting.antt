@@ -19,7 +19,8 @@ abbrev pub RightIsMendable : State → Option ℕ → Type 0
 RightIsMendable st None = Unit {0}
 RightIsMendable st (Some block) = IsMendable st block
 
--- the page to the right, if there is one, as it is stored: its left link may be mended, and no other session holds it
+-- the page to the right, if there is one, as it is stored: its left link may be mended, and no other session
+-- holds it
 abbrev pub RightIsStored : State → ℕ → Option ℕ → Option Page → Type 0
 RightIsStored st session None None = Unit {0}
 RightIsStored st session None (Some page) = ⊥

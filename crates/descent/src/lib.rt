@@ -1,5 +1,5 @@
-//! How every operation comes to a page: it is read latched, and leads to the next one on the way from the metapage. And the
-//! words that the steps of all operations share.
+//! How every operation comes to a page: it reads one page after the other, from the metapage on, and each
+//! leads it to the next. Here are also the words that the steps of all operations share.
 #![tactic(auto)]
 
 mod position;

@@ -32,7 +32,7 @@ pub enum NextPage {
     Here,
 }
 
-/// The way from the metapage to the root; None where the page names none.
+/// The way from the metapage to the root; None if the page names none.
 pub fn way_down(meta: &Page) -> Option<Position>
     ensures named { (root : ℕ) → IsMetaOf meta.now root meta.now.level
         → result ≡ Some (position_from root meta.now.level) }
@@ -77,7 +77,7 @@ fn is_passed(page: &Page, aim: &SearchKey) -> bool
     !is_live(page.state) || !aim.is_within(&page.high)
 }
 
-// The page to the right, unless so many moves were made.
+// The page to the right, unless `most` moves were made.
 fn go_right(page: &Page, position: &Position, most: u32) -> Option<Position>
     ensures { result ≡ right_of page.now position.now most }
 {
@@ -109,9 +109,10 @@ fn go_down(page: &Page, position: &Position, aim: &SearchKey) -> Option<Position
     }
 }
 
-/// Where the page of this way leads a call on its way to the level `to`: right, where it is not live or what is looked for
-/// lies beyond its high key; else down, to a page that is one level lower; or it is the page sought. None where the page is
-/// on another level than it is to be, where a link or a child is missing, or where `most` moves right were made.
+/// Where the page of this way leads a call on its way to the level `to`: right, if it is not live or what
+/// is looked for lies beyond its high key; else down, to a page that is one level lower; or it is the page
+/// sought. None if the page is on another level than it is to be, if a link or a child is missing, or
+/// if `most` moves right were made.
 pub fn lead(
     page: &Page,
     position: &Position,

@@ -14,8 +14,8 @@ use latch_table::Mode;
 use page_action::PageStore;
 use page_codec::Page;
 
-/// Brings a page into memory that the session may latch shared, and latches nothing: [`PageStore::view`] shows it. Refused with
-/// `Stopped`, `Blocked`, and with the faults of [`PageStore::fetch`].
+/// Brings a page into memory that the session may latch shared, and latches nothing: [`PageStore::view`]
+/// shows it. Refused with `Stopped`, `Blocked`, and with the faults of [`PageStore::fetch`].
 pub fn read_shared<S: PageStore>(store: &mut S, session: Session, block: u32) -> Result<(), Fault>
     ensures steps { Continues S.follows store.old store.new }
     ensures state { S.state store.new ≡ S.state store.old }
@@ -45,8 +45,8 @@ pub fn read_shared<S: PageStore>(store: &mut S, session: Session, block: u32) ->
     store.fetch(block)
 }
 
-/// Asks whether another session's hold on the page conflicts, and takes nothing: a step is one moment, so what it latched for
-/// itself alone it would let go at once. Refused with `Blocked` (4).
+/// Asks whether another session's hold on the page conflicts, and takes no latch. A step is one moment: what
+/// it latched for itself alone, it would let go at once. Refused with `Blocked` (4).
 pub fn check_latch<S: PageStore>(
     store: &mut S,
     session: Session,
@@ -65,8 +65,8 @@ pub fn check_latch<S: PageStore>(
     store.ask(session, block, mode)
 }
 
-/// Reads a page that the step may change: no other session holds it. Refused with `Stopped`, `Blocked`, and with the faults
-/// of [`PageStore::page`].
+/// Reads a page that the step may change: no other session holds it. Refused with `Stopped`, `Blocked`, and
+/// with the faults of [`PageStore::page`].
 pub fn read_exclusive<S: PageStore>(
     store: &mut S,
     session: Session,
@@ -100,9 +100,9 @@ pub fn read_exclusive<S: PageStore>(
     store.page(block)
 }
 
-/// Reads two pages that the step may change into two that stand ready: no other session holds them. Refused with `Stopped`, then
-/// with `Blocked` for the first page before the second, then with the faults of [`PageStore::fetch`] likewise: what stands in
-/// the two has no meaning then.
+/// Reads two pages that no other session holds, and that the step may change, into two that stand ready.
+/// Refused with `Stopped`, then with `Blocked` for the first page before the second, then with the faults of
+/// [`PageStore::fetch`] likewise: what stands in the two has no meaning then.
 pub fn read_both<S: PageStore>(
     store: &mut S,
     session: Session,

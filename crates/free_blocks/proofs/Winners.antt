@@ -54,7 +54,7 @@ module _ (tree : List (Option ℕ)) (size : ℕ) (most : Option ℕ) (winners : 
             (subst (λ (n : ℕ). block < leftmost n levels) next to) inside
       ]
 
--- the lowest block whose number is at most this stands so many levels under the node
+-- the lowest block whose number is at most this stands `levels` levels under the node
 pub record LeadsToLowest (tree : List (Option ℕ)) (size : ℕ) (most : Option ℕ) (node levels : ℕ) : Type 0 where
   pub from : size ≤ leftmost node levels
   pub to : leftmost (node + 1) levels ≤ 2 * size

@@ -1,7 +1,7 @@
 -- Numbers of blocks, and which of them are low enough.
 use Rattle.std.specs.Prelude.{◌≡◌, ℕ, ◌<◌, Bool, true, false, nat_le, min, Option, Some, None, List, slice_index_or}
 
--- the number of a block; none where it has none, or there is no such block
+-- the number of a block; none if it has none, or there is no such block
 abbrev pub number_at : List (Option ℕ) → ℕ → Option ℕ
 number_at numbers block = slice_index_or numbers block None
 

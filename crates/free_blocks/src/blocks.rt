@@ -6,8 +6,8 @@ use crate::tree::{self, Shape};
 use std::alloc::{AllocError, Global};
 use std::marker::Model;
 
-/// For each block a number since when it is free, or none. It has a fixed size and never allocates after `new`.
-/// Contracts see a list of the numbers by block.
+/// For each block a number since when it is free, or none. It has a fixed size and never allocates after
+/// `new`. Contracts see a list of the numbers by block.
 #[derive(Drop)]
 pub struct FreeBlocks {
     // The winner tree.
@@ -29,7 +29,7 @@ impl Model for FreeBlocks {
 impl FreeBlocks {
     ghost use Rattle.free_blocks.specs.Numbers.{number_at, IsLowest, AreBeyond};
 
-    /// So many blocks, at most 65,536, none of them free. Refused where the memory for them is.
+    /// `places` blocks, at most 65,536, none of them free. Refused if the memory for them is.
     pub fn new(alloc: Global, places: u32) -> Result<FreeBlocks, AllocError>
         requires few { places ≤ 65536 }
         ensures made { IfOk result (λ free. free ≡ replicate places None) }
@@ -40,8 +40,8 @@ impl FreeBlocks {
         Ok(FreeBlocks { tree, shape })
     }
 
-    /// Says since when a block is free, or, with none, that it isn't: in at most 17 writes, and in one look where none is to
-    /// be and none is.
+    /// Says since when a block is free, or, with none, that it isn't: in at most 17 writes, and in one look
+    /// if none is to be and none is.
     pub fn set(&mut self, block: u32, number: Option<u64>)
         requires place { block < length self.old }
         ensures { self.new ≡ slice_set self.old block number }
@@ -52,14 +52,15 @@ impl FreeBlocks {
         tree::put(&mut self.tree, self.shape, block, number);
     }
 
-    /// Since when a block is free, in one look. None where it isn't, or there is no such block.
+    /// Since when a block is free, in one look. None if it isn't, or there is no such block.
     pub fn get(&self, block: u32) -> Option<u64>
         ensures { result ≡ number_at self.now block }
     {
         tree::number_at(&self.tree, self.shape.size as usize + block as usize)
     }
 
-    /// The lowest block whose number is at most this, in at most 17 looks. Where `most` is none, each number is.
+    /// The lowest block whose number is at most this, in at most 17 looks. If `most` is none, each number
+    /// is.
     pub fn lowest(&self, most: Option<u64>) -> Option<u32>
         ensures found { IfSome result (IsLowest most self.now) }
         ensures none { IfNone result (AreBeyond most self.now) }

@@ -1,5 +1,5 @@
-//! A winner tree in one array: node 1 is the root, nodes 2n and 2n + 1 stand under node n, the lowest nodes are the
-//! blocks. Each inner node holds the least number below it.
+//! A winner tree in one array: node 1 is the root, nodes 2n and 2n + 1 stand under node n, the lowest nodes
+//! are the blocks. Each inner node holds the least number below it.
 
 ghost use Rattle.std.specs.Prelude.{◌≡◌, ℕ, ◌+◌, ◌*◌, ◌<◌, ◌≤◌, length, drop, slice_set, IfSome, IfNone};
 ghost use Rattle.free_blocks.specs.Numbers.{number_at, lesser, is_at_most, AreBeyond, IsLowest};
@@ -14,7 +14,7 @@ pub(crate) struct Shape {
 }
 
 impl Shape {
-    /// The least tree that has so many places.
+    /// The least tree that has this number of places.
     pub(crate) fn new(places: u32) -> Shape
         requires few { places ≤ 65536 }
         ensures places { places ≤ result.size }

@@ -1,6 +1,7 @@
 //! How far long work is.
 
-/// Is told how far long work is, by whoever does it, in any thread. Nothing is promised of when, or how often.
+/// Is told how far long work is, by whoever does it, in any thread. Nothing is promised of when, or how
+/// often.
 pub trait Progress {
     /// This many of all pages, or jobs, are done.
     fn done(&self, count: u64, all: u64);

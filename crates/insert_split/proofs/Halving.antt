@@ -56,7 +56,7 @@ halved_are st session at new left half None (Some page) one two stored = absurd 
 halved_are st session at new left half (Some b) None one two stored = absurd stored
 halved_are st session at new left half (Some b) (Some page) one two stored = rw (one, two, stored.0.block_is) refl
 
--- where the leaf is pinned, it needs a frame for each page beside it
+-- if the leaf is pinned, it needs a frame for each page beside it
 pub frames_beside : (st : State) (at : ℕ) (beside blocks : List ℕ) → blocks ≡ at ∷ beside → has_pin (pinned_blocks st.table) at ≡ true
     → count_apart (blocks ++ pinned_blocks st.table) ≤ length beside + count_apart (pinned_blocks st.table)
 frames_beside st at beside blocks is pin =

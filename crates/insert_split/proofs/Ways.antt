@@ -26,7 +26,7 @@ on_way_from_root st start aim clear to meta position tree found le named =
       trail = trail_begins_here st start meta.level aim clear there.root tree there.place;
     })
 
--- where no page has an incomplete split, the root covers whatever is looked for
+-- if no page has an incomplete split, the root covers whatever is looked for
 pub root_covers_there : (st : State) (aim : Bound → Bool) (meta : Page) (position : Position) → HasTree st → NoneIsIncomplete st.pages → slice_get st.pages 0 ≡ Some meta
     → ((root : ℕ) → IsMetaOf meta root meta.level → Some position ≡ Some (position_from root meta.level)) → HasCover st position.level aim position.block × (position.level ≡ root_level st.pages)
 root_covers_there st aim meta position h whole found named =

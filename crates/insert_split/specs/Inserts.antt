@@ -39,7 +39,8 @@ leaf_held block = record {
   pins = block ∷ [];
 }
 
--- the block is the live leaf that covers the entry, without an incomplete split nor right after one with an incomplete split
+-- the block is the live leaf that covers the entry, without an incomplete split nor right after one with an
+-- incomplete split
 pub record IsLeafFor (st : State) (start : ℕ) (e : Entry) (block : ℕ) : Type 0 where
   pub page : Page
   pub found : slice_get st.pages block ≡ Some page
@@ -49,7 +50,8 @@ pub record IsLeafFor (st : State) (start : ℕ) (e : Entry) (block : ℕ) : Type
   pub place : LeadsTo st start 0 (entry_aim e) true block
   pub within : is_within (entry_aim e) page.high ≡ true
 
--- what it holds, and where it stands: before its first step, on its way to its leaf, with its leaf, or with splits to finish
+-- what it holds, and where it stands: before its first step, on its way to its leaf, with its leaf, or with
+-- splits to finish
 abbrev pub InsertStands : State → ℕ → ℕ → Entry → InsertAt → Type 0
 InsertStands st session start e (Coming Start) = holding_of st.table session ≡ nothing_held
 InsertStands st session start e (Coming (At position)) =
@@ -76,7 +78,7 @@ abbrev pub targets_at : InsertAt → List Target
 targets_at (Coming stage) = []
 targets_at (Finishing op) = targets_of op
 
--- what is left to do, in steps, while the pages are as they are and there are at most so many
+-- what is left to do, in steps, while the pages are as they are and there are `most` at most
 abbrev pub insert_left : ℕ → List Page → InsertAt → ℕ
 insert_left most pages (Coming Start) = 33 * suc (walk_length most) + walk_length most
 insert_left most pages (Coming (At position)) = 33 * suc (walk_length most) + way_left most position
@@ -88,7 +90,8 @@ abbrev pub is_full_page : ℕ → Option Page → Bool
 is_full_page items None = false
 is_full_page items (Some page) = nat_le items (length (entries_of page.items))
 
--- the blocks that are written beside a leaf with this right sibling that is split: its right half, and the sibling
+-- the blocks that are written beside a leaf with this right sibling that is split: its right half, and the
+-- sibling
 abbrev pub blocks_halved : State → Option ℕ → List ℕ
 blocks_halved st right = fresh_block st ∷ sibling right
 
@@ -134,8 +137,8 @@ causes_of_inserting st old new session e at =
       key_was_there = other_row_is_there st e;
     }
 
--- ... and why it leaves splits unfinished, once its entry is logged: never that its entry or its key was there, nor that another session
--- holds a page
+-- ... and why it leaves splits unfinished, once its entry is logged: never that its entry or its key was
+-- there, nor that another session holds a page
 abbrev pub causes_of_left : State → Backing → Backing → ℕ → Entry → InsertAt → Circumstances
 causes_of_left st old new session e at = record (causes_of_inserting st old new session e at) {
   is_held_by_another = λ b. false;
@@ -143,15 +146,15 @@ causes_of_left st old new session e at = record (causes_of_inserting st old new 
   key_was_there = λ r. false;
 }
 
--- what may be so where a step of an insert of this entry is refused, whatever the pages are: its key only on a unique index, and there only
--- with another row
+-- what may be so if a step of an insert of this entry is refused, whatever the pages are: its key only on
+-- a unique index, and there only with another row
 abbrev pub causes_of_inserting_any : Bool → Entry → Circumstances
 causes_of_inserting_any unique e = record causes_of_splitting_any {
   entry_was_there = true;
   key_was_there = λ r. unique && not (same_entry (with_row e r) e);
 }
 
--- ... and where it leaves splits unfinished
+-- ... and if it leaves splits unfinished
 abbrev pub causes_of_left_any : Circumstances
 causes_of_left_any = record causes_of_splitting_any { is_held_by_another = λ b. false }
 
@@ -170,7 +173,8 @@ IsNoted (Some (Add x)) acts e before after =
 IsNoted (Some (Remove es)) acts e before after = ⊥
 IsNoted (Some Shape) acts e before after = after ≡ before
 
--- a step that goes on: where only pages had incomplete splits that it was to finish, only such are
+-- a step that goes on: if no other pages had incomplete splits than those that it was to finish, no others
+-- have them now
 pub record InsertContinues (old new : State) (before after : InsertOp) : Type 0 where
   pub effect : Option Effect
   pub does : StepEffect before.session effect old new
@@ -179,8 +183,8 @@ pub record InsertContinues (old new : State) (before after : InsertOp) : Type 0 
   pub flags : OnlyTargetsAreIncomplete old (targets_at before.at)
       → OnlyTargetsAreIncomplete new (targets_at after.at)
 
--- what the end of an insert leaves unfinished: nothing, and then no page has an incomplete split if only those were that it was to finish;
--- or a fault, which has its cause
+-- what the end of an insert leaves unfinished: nothing, and then no page has an incomplete split, if only
+-- those had one that it was to finish; or a split, because of a fault that has its cause
 abbrev pub IsLeft : State → Backing → State → Backing → InsertOp → Option Effect → Option Fault
     → Type 0
 IsLeft old old_backing new new_backing before effect None =
@@ -212,14 +216,14 @@ pub record InsertStays (old new : State) (before after : InsertOp) : Type 0 wher
   pub state : new ≡ old
   pub op : after ≡ before
 
--- on a stopped log a step is refused; where the entry is logged, the insert ends with that
+-- on a stopped log a step is refused; if the entry is logged, the insert ends with that
 abbrev pub AnswersStopped : Option ℕ → Result InsertStep Fault → Type 0
 AnswersStopped None result = result ≡ Err Stopped
 AnswersStopped (Some action) result = result ≡ Ok (Added action (Some Stopped))
 
--- A step of an insert. On any pages: it does one act at most, a refused one changes nothing, and a stopped log refuses it.
--- On any pages, over a device that keeps its model: one that goes on without an act leaves less to do. On pages in order:
--- what it does, and why it is refused.
+-- A step of an insert. On any pages: it does one act at most, a refused one changes nothing, and a stopped
+-- log refuses it. On any pages, over a device that keeps its model: one that goes on without an act leaves
+-- less to do. On pages in order: what it does, and why it is refused.
 pub record InsertSteps {S : Type 0} (g : Ghosts S) (before after : InsertOp) (old new : S)
     (result : Result InsertStep Fault) : Type 0 where
   pub steps : Continues g.follows old new
@@ -235,7 +239,7 @@ pub record InsertSteps {S : Type 0} (g : Ghosts S) (before after : InsertOp) (ol
   pub stepped : (g.backing new).honest ≡ true → IsInOrder (g.state old)
       → InsertInvariant (g.state old) before
       → InsertStepped (g.state old) (g.backing old) (g.state new) (g.backing new) before after result
-  -- where no page has an incomplete split and its leaf has room, each step is one nearer to the last
+  -- if no page has an incomplete split and its leaf has room, each step is one nearer to the last
   pub straight : (g.backing new).honest ≡ true → IsInOrder (g.state old)
       → InsertInvariant (g.state old) before → NoneIsIncomplete (g.state old).pages
       → IsStraight (g.state old) before.entry before.at → HasRoomFor (g.state old) before.entry

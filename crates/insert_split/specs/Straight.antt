@@ -1,4 +1,4 @@
--- How many steps bring an insert to its end, where no split is unfinished and its leaf has room.
+-- How many steps bring an insert to its end, if no split is unfinished and its leaf has room.
 use Rattle.std.specs.Prelude.{◌≡◌, ℕ, suc, ◌+◌, ◌<◌, Some, None, Result, Ok, Err, List, length, slice_get}
 use Rattle.index_model.specs.declared.entry.Entry.{Entry}
 use Rattle.index_model.specs.declared.fault.Fault.{Fault}

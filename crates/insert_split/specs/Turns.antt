@@ -79,7 +79,8 @@ Takes block before after old new (Ok (Added action unfinished)) = ⊥
 Takes block before after old new (Err fault) =
     (new ≡ old) × (after ≡ before) × IsNotTaken block before old fault
 
--- on a unique index an entry of this one's key is on the page, with the row that the fault names, which is another
+-- on a unique index an entry of this one's key is on the page, with the row that the fault names, which is
+-- another
 pub record IsOfAnotherRow (page : Page) (e : Entry) (unique : Bool) (fault : Fault) : Type 0 where
   pub row : Row
   pub is : fault ≡ KeyExists row
@@ -94,7 +95,8 @@ PlaceRefused page e unique fault =
     ⊎ (((fault ≡ Exists) × (is_among (entries_of page.items) e ≡ true))
     ⊎ IsOfAnotherRow page e unique fault)
 
--- the page stands at its block, with no more entries than the limits allow, and the page to its right may be mended
+-- the page stands at its block, with no more entries than the limits allow, and the page to its right may be
+-- mended
 pub record IsSplittable (st : State) (page : Page) : Type 0 where
   pub found : slice_get st.pages page.block ≡ Some page
   pub stored : IsStored st.limits page.block page
@@ -102,8 +104,9 @@ pub record IsSplittable (st : State) (page : Page) : Type 0 where
   pub mendable : RightIsMendable st page.right
   pub apart : page.right ≢ Some page.block
 
--- the pages are the halves of the leaf with the entry, parted by their separator, the right one on a new block, both of the
--- second layout and with this cycle number, and this page
+-- the pages are the two halves of the leaf with the entry, and this third page; the halves are parted by
+-- their separator, the right one is on a new block, and both are of the second layout and carry this cycle
+-- number
 pub record AreParted (page : Page) (e : Entry) (new cycle : ℕ) (rest : Page) (pages : List Page)
     : Type 0 where
   pub left : Page
@@ -125,8 +128,8 @@ pub record AreParted (page : Page) (e : Entry) (new cycle : ℕ) (rest : Page) (
   pub left_page : IsPage left
   pub half_page : IsPage half
 
--- The leaf is split with the entry, on a block that was free, and let go; its split is to be finished. Both halves carry the
--- cycle number of the running bulk delete.
+-- The leaf is split with the entry, on a block that was free, and let go; its split is to be finished. Both
+-- halves carry the cycle number of the running bulk delete.
 pub record SplitsLeaf (honest : Bool) (page : Page) (before after : InsertOp) (old new : State)
     : Type 0 where
   pub left : Page
@@ -185,7 +188,7 @@ abbrev pub is_blocked : Fault → Bool
 is_blocked (Blocked b) = true
 is_blocked fault = false
 
--- an insert whose entry is logged is over with the fault, but where a page is blocked; any other is refused
+-- an insert whose entry is logged is over with the fault, unless a page is blocked; any other is refused
 abbrev pub EndsBy : Bool → Option ℕ → Fault → Result InsertStep Fault → Type 0
 EndsBy blocked None fault result = result ≡ Err fault
 EndsBy true (Some action) fault result = result ≡ Err fault
@@ -194,7 +197,8 @@ EndsBy false (Some action) fault result = result ≡ Ok (Added action (Some faul
 abbrev pub Leaves : Option ℕ → Fault → Result InsertStep Fault → Type 0
 Leaves added fault result = EndsBy (is_blocked fault) added fault result
 
--- once the entry is logged, only a page that is blocked refuses a step, and the insert ends with the number of that action
+-- once the entry is logged, only a page that is blocked refuses a step, and the insert ends with the number
+-- of that action
 abbrev pub IsRefusedRightly : Option ℕ → Result InsertStep Fault → Type 0
 IsRefusedRightly None result = Unit {0}
 IsRefusedRightly (Some action) (Ok Going) = Unit {0}

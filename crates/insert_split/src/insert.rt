@@ -92,16 +92,18 @@ impl InsertOp {
         self.added = None;
     }
 
-    /// Makes one step. After `Added` and after each fault but `Blocked` the call is over, and its store's `end` is due.
+    /// Makes one step. After `Added` and after each fault but `Blocked` the call is over, and its store's
+    /// `end` is due.
     ///
-    /// Refused with `Blocked` (4), and the same step may be made again; with `Exists` (5) where the entry is there; with
-    /// `KeyExists` (21) on a unique index where an entry of its key is there, whose row the fault names; with
-    /// `IndexFull` (8) where a page would be split and no block is free; with `Io` (2), `Stopped` (3), `LogFull` (9),
-    /// `NoFrame` (10); with `TooTall` (19) where a split that it meets would be one of a root on level 31; with `PageDamaged`
-    /// (17) on pages that are no tree. A refused step changes nothing. Once the entry is logged, each of these but `Blocked`
-    /// stands in `unfinished` of `Added`.
+    /// Refused with `Blocked` (4), and the same step may be made again; with `Exists` (5) if the entry is
+    /// there; with `KeyExists` (21) on a unique index if an entry of its key is there, whose row the fault
+    /// names; with `IndexFull` (8) if a page would be split and no block is free; with `Io` (2), `Stopped`
+    /// (3), `LogFull` (9), `NoFrame` (10); with `TooTall` (19) if a split that it meets would be one of a
+    /// root on level 31; with `PageDamaged` (17) on pages that are no tree. A refused step changes nothing.
+    /// Once the entry is logged, each of these but `Blocked` stands in `unfinished` of `Added`.
     ///
-    /// `draft` is room for a leaf, and `pages` for the pages of a split: what they hold has no meaning, neither before nor after.
+    /// `draft` is room for a leaf, and `pages` for the pages of a split: what they hold has no meaning,
+    /// neither before nor after.
     pub fn step<S: PageStore>(
         &mut self,
         store: &mut S,
@@ -233,7 +235,8 @@ impl InsertOp {
         }
     }
 
-    // Puts the entry into the leaf that it holds, by a copy in the draft: a page of its own here would be filled with zeros first.
+    // Puts the entry into the leaf that it holds, by a copy in the draft: a page of its own here would be
+    // filled with zeros first.
     fn add<S: PageStore>(
         &mut self,
         store: &mut S,
@@ -267,7 +270,8 @@ impl InsertOp {
         }
     }
 
-    // Makes a step by which splits are finished. Few steps do: those that don't are spared the room for its pages.
+    // Makes a step by which splits are finished. Few steps do: those that don't are spared the room for its
+    // pages.
     #[inline(never)]
     fn finish<S: PageStore>(
         &mut self,
@@ -309,7 +313,8 @@ impl InsertOp {
         }
     }
 
-    // A split can't be finished: where the entry is logged, the insert is over all the same, except for a page that is blocked.
+    // A split can't be finished: if the entry is logged, the insert is over all the same, except for a
+    // page that is blocked.
     fn leave(&self, fault: Fault) -> Result<InsertStep, Fault>
         ensures { Leaves self.now.added fault result }
     {
@@ -323,7 +328,8 @@ impl InsertOp {
     }
 }
 
-// The insert is at this stage. One whose entry isn't on its leaf keeps the room of the splits to finish as it is.
+// The insert is at this stage. One whose entry isn't on its leaf keeps the room of the splits to finish as it
+// is.
 fn come_to(at: &mut InsertAt, stage: Stage)
     ensures { at.new ≡ InsertAt.Coming stage }
 {
@@ -349,7 +355,7 @@ fn has_incomplete_split(page: &Page) -> bool
     matches!(page.state, PageState::Live) && page.split
 }
 
-// What is to be finished of a page, met on this way; None where it is on another level, or has no high key.
+// What is to be finished of a page, met on this way; None if it is on another level, or has no high key.
 fn target_of(page: &Page, position: Position) -> Option<Target>
     ensures target { IfSome result (λ t. (t.block ≡ position.block) × (t.level ≡ position.level)
         × (page.now.level ≡ position.level) × (page.now.high ≡ Some t.separator)) }

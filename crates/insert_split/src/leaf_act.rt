@@ -1,4 +1,5 @@
-//! Room on a leaf: a place on it, or two halves of it.
+//! The act by which an insert puts its entry on its leaf. If the leaf has room, the entry gets its place
+//! there. Else the leaf is split, and the entry stands on one of the halves.
 
 ghost use Rattle.std.specs.Prelude.{◌≡◌, ◌≤◌, ◌<◌, ◌+◌, [], ◌∷◌, true, false, suc, ℕ, Some, None, IfSome, IfNone, IfOk, IfErr, OnOk, OnErr, length, slice_get};
 ghost use Rattle.index_model.specs.Faults.{HasCause};
@@ -28,7 +29,8 @@ use split_finish::{FinishOp, half_to_finish};
 use std::slice;
 use tree_shape::{entries_on, find, find_key, may_hold, mend_left, put, split_leaf};
 
-// The place of the entry on the page, which is to be its leaf. On a unique index no entry there may have its key.
+// The place of the entry on the page, which is to be its leaf. On a unique index no entry there may have its
+// key.
 pub fn place_in(page: &Page, entry: &Entry, unique: bool) -> Result<usize, Fault>
     ensures may { OnOk result (MayHold page.now entry.now) }
     ensures absent { IsPage page.now → OnOk result
@@ -73,8 +75,8 @@ fn part(page: &Page, at: usize, entry: Entry, new: u32, cycle: u32, pages: &mut 
     split_leaf(&mut front[0], at, entry, new, cycle, &mut back[0]);
 }
 
-// Acts on the halves of a leaf, the first two pages, and on the third, if it is the page to the right of them: its left link is
-// mended.
+// Acts on the halves of a leaf, the first two pages, and on the third, if it is the page to the right of
+// them: its left link is mended.
 fn act_on_halves<S: PageStore>(
     store: &mut S,
     pages: &mut [Page; 3],
@@ -138,8 +140,8 @@ impl InsertOp {
         }
     }
 
-    // Splits the leaf that it holds, with the entry put at this place, and lets it go. Few inserts do: those that don't are
-    // spared the room for its pages.
+    // Splits the leaf that it holds, with the entry put at this place, and lets it go. Few inserts do: those
+    // that don't are spared the room for its pages.
     #[inline(never)]
     pub fn split<S: PageStore>(
         &mut self,

@@ -81,7 +81,7 @@ own_alone from (holding ∷ table) (suc place) session block asked below is alon
     let rest : holder_count table ≡ one_if (holds_any (holding_of table place)) = omega (arith, alone, among) in
     rw (excludes_nothing holding block asked none, and_false (not (from == session))) (own_alone (suc from) table place session block asked (omega arith) (omega (arith, is)) rest)
 
--- where the session alone may hold something, nothing is in its way
+-- if the session alone may hold something, nothing is in its way
 pub alone : (table : Table) (session block : ℕ) (asked : Mode) → session < length table
     → holder_count table ≡ one_if (holds_any (holding_of table session)) → is_held_by_another table session block asked ≡ false
 alone table session block asked below own = own_alone 0 table session session block asked below (omega arith) own

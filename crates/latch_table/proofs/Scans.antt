@@ -8,7 +8,7 @@ use Rattle.latch_table.specs.declared.mode.Mode.TheVariants.{Shared, Exclusive, 
 use Rattle.latch_table.specs.declared.mode.Latch.{Latch}
 use Rattle.latch_table.specs.Holdings.{excludes, latches_exclude, has_pin, without_latch, Holding, Table, holding_excludes, others_exclude, pins_exclude}
 
--- latches exclude where any of them does
+-- latches exclude if any of them does
 pub latches_exclude-list_any : (latches : List Latch) (block : ℕ) (asked : Mode) → latches_exclude latches block asked ≡ list_any (λ held. (held.block == block) && excludes held.mode asked) latches
 latches_exclude-list_any [] block asked = refl
 latches_exclude-list_any (held ∷ latches) block asked = ap (λ rest. ((held.block == block) && excludes held.mode asked) || rest) (latches_exclude-list_any latches block asked)
@@ -17,7 +17,7 @@ pub has_pin-list_any : (pins : List ℕ) (block : ℕ) → has_pin pins block �
 has_pin-list_any [] block = refl
 has_pin-list_any (pinned ∷ pins) block = ap (λ rest. (pinned == block) || rest) (has_pin-list_any pins block)
 
--- the list without its first element that passes; itself, where none does
+-- the list without its first element that passes; itself, if none does
 unfoldable pub without : {X : Type 0} → (X → Bool) → List X → List X
 without passes [] = []
 without passes (x ∷ xs) = cond (passes x) xs (x ∷ without passes xs)
@@ -69,7 +69,7 @@ chosen_none : {X : Type 0} (test : Bool) (x : X) → cond test (Some x) None ≡
 chosen_none true x none = absurd cc
 chosen_none false x none = refl
 
--- where no element passes, none is taken away
+-- if no element passes, none is taken away
 pub without-none : {X : Type 0} (passes : X → Bool) (xs : List X) → position passes xs ≡ None → without passes xs ≡ xs
 without-none passes xs none =
     let place : ℕ = position_or_len passes xs in

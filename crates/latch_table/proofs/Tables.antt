@@ -171,7 +171,7 @@ is_held_by_another-by table session block asked excluded =
     let by : Excluder 0 table session block asked = others_exclude-by 0 table session block asked excluded in
     (by.other, by.is_there, (λ same. by.is_another (omega (arith, same))), by.excludes_it)
 
--- where nothing is in a latch's way, no other session's hold excludes it
+-- if nothing is in a latch's way, no other session's hold excludes it
 pub is_held_by_another-free : (table : Table) (session block : ℕ) (asked : Mode) (other : ℕ) → other < length table → other ≢ session
     → is_held_by_another table session block asked ≡ false → holding_excludes (holding_of table other) block asked ≡ false
 is_held_by_another-free table session block asked other below apart free =

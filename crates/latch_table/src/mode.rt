@@ -5,12 +5,12 @@ ghost use Rattle.std.specs.Prelude.{◌≡◌};
 /// How a page is latched.
 #[derive(Clone, Copy, Default)]
 pub enum Mode {
-    /// Beside other shared ones.
+    /// It stands beside other shared latches.
     #[default]
     Shared,
-    /// Beside no other.
+    /// It stands beside no other latch.
     Exclusive,
-    /// Beside no other, and no other session's pin.
+    /// It stands beside no other latch, and beside no other session's pin.
     Cleanup,
 }
 

@@ -9,12 +9,12 @@ use index_model::{Fault, Session};
 use std::array;
 use std::marker::Model;
 
-/// The latches and pins of sessions 0 to 63: at most 8 latches and 2 pins for each. It has a fixed size and never
-/// allocates. Contracts see a list of 64 holdings.
+/// The latches and pins of sessions 0 to 63: at most 8 latches and 2 pins for each. It has a fixed size and
+/// never allocates. Contracts see a list of 64 holdings.
 #[derive(Drop)]
 pub struct LatchTable {
     holdings: [Held; 64],
-    /// How many sessions hold something. Where only the asking one does, none has to be asked.
+    /// How many sessions hold something. If only the asking one does, none has to be asked.
     holders: usize,
 }
 
@@ -61,8 +61,8 @@ impl LatchTable {
         one_conflicts(&self.holdings, session.number() as usize, block, mode)
     }
 
-    /// Whether another session holds what excludes that latch of the block. What the session itself holds never
-    /// does.
+    /// Whether another session holds what excludes that latch of the block. What the session itself holds
+    /// never does.
     pub fn conflicts(&self, session: Session, block: u32, mode: Mode) -> bool
         ensures value { result ≡ is_held_by_another self.now session block mode }
         ensures sessions { length self.now ≡ 64 }
@@ -90,8 +90,8 @@ impl LatchTable {
         self.holders = recounted(self.holders, before, after);
     }
 
-    /// Whether the session may take that latch of the block: no other one holds what excludes it, and it has fewer than
-    /// 8 latches.
+    /// Whether the session may take that latch of the block: no other one holds what excludes it, and it has
+    /// fewer than 8 latches.
     pub fn may_latch(&self, session: Session, block: u32, mode: Mode) -> bool
         ensures free { result ≡ true → is_held_by_another self.now session block mode ≡ false }
         ensures room { result ≡ true → HasRoom self.now session }
@@ -103,7 +103,7 @@ impl LatchTable {
         !self.conflicts(session, block, mode) && !self.is_full(session)
     }
 
-    /// Takes a latch, or answers `Blocked` with the block and takes nothing: where another session holds what
+    /// Takes a latch, or answers `Blocked` with the block and takes nothing: if another session holds what
     /// excludes it, or the session has 8 latches.
     pub fn latch(&mut self, session: Session, block: u32, mode: Mode) -> Result<(), Fault>
         ensures ok { OnOk result (self.new ≡ latched self.old session block mode) }

@@ -1,4 +1,5 @@
--- The deletion numbers that wait: they stay those of the deleted pages, and tell which of these may be reused.
+-- The deletion numbers that wait: they stay those of the deleted pages, and tell which of these may be
+-- reused.
 use Rattle.std.proofs.Common.{◌≡◌, ◌≢◌, ◌≤◌, ◌<◌, ℕ, zero, suc, Bool, true, false, ◌&&◌, nat_le, if◌then◌else◌, min, Option, Some, None, List, [], ◌∷◌, ◌++◌, length, slice_get, slice_set, slice_index, unwrap_or, replicate, refl, sym, ap, subst, ◌∙◌, inl, inr, arith, length-set}
 use Rattle.std.proofs.lemmas.List.{get_or-set_same, get_or-set_other}
 use Rattle.page_codec.specs.declared.page.PageState.{PageState}
@@ -60,7 +61,7 @@ puts_count counted page place = elim (cases_lt page.block (length counted)) [
   | inr ge ↦ rw (le-ltb page.block (length counted) ge) (added counted page.block (number_to_count page.state page.deletion) (omega arith))
 ]
 
--- the number that waits where a page is written is that which counts, if it is deleted
+-- the number that waits once a page is written is that which counts, if it is deleted
 count_waits : (state : PageState) (number : ℕ) → waiting_number state number ≡ (if is_deleted_state state then Some (number_to_count state number) else None)
 count_waits Live number = refl
 count_waits HalfDead number = refl
@@ -112,7 +113,7 @@ write_waits limits used waiting pages counted (page ∷ changed) may most room s
     write_waits limits used (with_waiting waiting page) (with_page pages page) (with_count counted page) changed may.3 (omega (arith, with_page-longer limits pages page may.0.storable place))
     (omega (arith, length-set waiting page.block (waiting_number page.state page.deletion))) (length-with_count counted pages page same) at
 
--- where nothing is in use, nothing waits
+-- if nothing is in use, nothing waits
 pub none_wait : (n : ℕ) → AreWaiting (replicate n None) [] []
 none_wait n = record { each = none n }
   where

@@ -1,5 +1,5 @@
--- What it costs to bring a page into memory: which frame it gets, which changed pages are written for that, and whether the log
--- is forced.
+-- What it costs to bring a page into memory: which frame it gets, which changed pages are written for that,
+-- and whether the log is forced.
 use Rattle.std.specs.Prelude.{◌≡◌, ◌⊎◌, ℕ, suc, ◌<◌, ◌≤◌, ◌/◌, ◌==◌, Bool, true, false, List, [], ◌∷◌, ◌++◌, length, map, slice_index, slice_set, All}
 use Rattle.std.specs.List.{list_any}
 use Rattle.latch_table.specs.Holdings.{pinned_blocks}
@@ -32,8 +32,8 @@ pub record CostsNothing (m m' : Memory) (old new : Backing) : Type 0 where
   pub changed : new.changed ≡ old.changed
   pub unwritten : (block : ℕ) → m'.unwritten block ≡ m.unwritten block
 
--- after the first ones of the order the next was written, and some right after it, of which none is pinned and each is durable: at
--- most a quarter of what there are frames
+-- after the first ones of the order the next was written, and some right after it, of which none is pinned
+-- and each is durable: at most a quarter of what there are frames
 pub record AreWrittenAfter (frames : ℕ) (pinned front behind : List ℕ) (m : Memory) (new : Backing) : Type 0 where
   pub more : List ℕ
   pub rest : List ℕ
@@ -42,8 +42,9 @@ pub record AreWrittenAfter (frames : ℕ) (pinned front behind : List ℕ) (m : 
   pub few : length more ≤ frames / 4
   pub each : All (λ b. (is_block_among pinned b ≡ false) × (m.unwritten b ≤ new.durable)) more
 
--- No frame is free: all are in use, and each clean page is pinned. So the first changed page that isn't pinned is written, and some
--- after it; or none is, since a call of the device failed. The log is forced for that first page alone, if its act isn't durable.
+-- No frame is free: all are in use, and each clean page is pinned. So the first changed page that isn't
+-- pinned is written, and some after it; or none is, because a call of the device failed. The log is forced
+-- for that first page alone, if its act isn't durable.
 pub record IsWrittenFor (frames : ℕ) (pinned : List ℕ) (m m' : Memory) (old new : Backing) : Type 0 where
   pub full : length m.held ≡ frames
   pub clean : All (λ b. is_block_among old.changed b ≡ false → is_block_among pinned b ≡ true) m.held
@@ -57,7 +58,7 @@ pub record IsWrittenFor (frames : ℕ) (pinned : List ℕ) (m m' : Memory) (old 
   pub left : (new.changed ≡ old.changed) ⊎ AreWrittenAfter frames pinned front behind m new
   pub others : (b : ℕ) → is_block_among new.changed b ≡ true → m'.unwritten b ≡ m.unwritten b
 
--- what a frame costs: nothing where one is free; else changed pages are written for it
+-- what a frame costs: nothing if one is free; else changed pages are written for it
 abbrev pub FrameCosts : ℕ → List ℕ → Memory → Memory → Backing → Backing → Type 0
 FrameCosts frames pinned m m' old new = CostsNothing m m' old new ⊎ IsWrittenFor frames pinned m m' old new
 
@@ -75,8 +76,9 @@ pub record TakesUnused (frames block : ℕ) (m m' : Memory) : Type 0 where
   pub unused : length m.held < frames
   pub held : m'.held ≡ m.held ++ block ∷ []
 
--- A page is brought into memory, or isn't, since a call failed or no frame is had. One that is there costs nothing; another takes an
--- unused frame before that of another page, and costs what that frame does.
+-- A page is brought into memory; or it isn't, because a call failed or no frame can be had. A page that is
+-- there costs nothing; another takes an unused frame before that of another page, and costs what that frame
+-- does.
 pub record TakesFrame (frames : ℕ) (pinned : List ℕ) (block : ℕ) (m m' : Memory) (old new : Backing) : Type 0 where
   pub there : is_block_among m.held block ≡ true → (m' ≡ m) × (new ≡ old)
   pub cost : FrameCosts frames pinned m m' old new
@@ -93,12 +95,13 @@ TakesFrames frames pinned (block ∷ blocks) m m' old new = (mid : Memory) × (b
 abbrev pub blocks_of : List Page → List ℕ
 blocks_of pages = map (λ page. page.block) pages
 
--- the pages of an act are brought into memory, where they and those that sessions have pinned stay
+-- the pages of an act are brought into memory, while they and those that sessions have pinned stay
 abbrev pub TakesActFrames : State → List Page → Memory → Memory → Backing → Backing → Type 0
 TakesActFrames st pages m m' old new =
     TakesFrames st.frames (blocks_of pages ++ pinned_blocks st.table) (blocks_of pages) m m' old new
 
--- the images of these pages wait in the log, and the pages to be written, after those that did; nothing is forced or written
+-- the images of these pages wait in the log, and the pages to be written, after those that did; nothing is
+-- forced or written
 pub record WaitAfter (pages : List Page) (old new : Backing) : Type 0 where
   pub changed : new.changed ≡ with_changed old.changed pages
   pub waiting : new.waiting ≡ with_changed old.waiting pages

@@ -7,7 +7,8 @@ use Rattle.page_codec.specs.Grammar.{IsPage}
 use Rattle.page_codec.specs.Spelling.{count_of}
 use Rattle.page_codec.specs.declared.page.Page.{Page}
 
--- the page is one that the format admits, with no more items than its limits allow, of a layout that it may have
+-- the page is one that the format admits, with no more items than its limits allow, of a layout that it may
+-- have
 pub record IsStorable (limits : Format) (page : Page) : Type 0 where
   pub admitted : IsPage page
   pub few : count_of page.items ≤ limits.items
@@ -38,14 +39,15 @@ IsApartFrom block (page ∷ pages) = (page.block ≢ block) × IsApartFrom block
 abbrev pub IsPlaceable : Format → ℕ → ℕ → Type 0
 IsPlaceable limits used block = (block ≤ used) × (block < limits.pages)
 
--- an act may change the page beside those after it: it may be written, at a block that is in use or the next unused one, which none
--- of them names
+-- an act may change the page beside those after it: it may be written, at a block that is in use or the next
+-- unused one, which none of them names
 pub record IsActableBeside (limits : Format) (used : ℕ) (page : Page) (behind : List Page) : Type 0 where
   pub writable : IsWritable limits page
   pub placeable : IsPlaceable limits used page.block
   pub apart : IsApartFrom page.block behind
 
--- the pages of an act: each may be written, at a block that is in use or the next unused one; no block is named twice
+-- the pages of an act: each may be written, at a block that is in use or the next unused one; no block is
+-- named twice
 abbrev pub AreActable : Format → ℕ → List Page → Type 0
 AreActable limits used [] = Unit {0}
 AreActable limits used (page ∷ pages) =

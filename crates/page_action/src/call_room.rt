@@ -7,16 +7,16 @@ use latch_table::LatchTable;
 use std::alloc::Global;
 use std::marker::Model;
 
-/// What sessions 0 to 63 have.
+/// What sessions 0 to 63 have: the start numbers of their running calls, their latches and their pins.
 #[derive(Drop)]
 pub(crate) struct Sessions {
-    /// Of each the start number of its running call.
+    /// The start number of each session's running call.
     pub(crate) running: [Option<u64>; 64],
     pub(crate) table: LatchTable,
 }
 
-/// The room for the calls and the holds of 64 sessions, none of which has any yet. It is some 6,500 bytes on the heap, so a
-/// store that has it is moved quickly.
+/// The room for the calls and the holds of 64 sessions, none of which has any yet. It is some 6,500 bytes on
+/// the heap, so a store that has it is moved quickly.
 #[derive(Drop)]
 pub struct CallRoom {
     pub(crate) sessions: Box<Sessions>,
@@ -35,7 +35,7 @@ impl Model for CallRoom {
 }
 
 impl CallRoom {
-    /// Refused with `NoMemory` where it cannot be had.
+    /// Refused with `NoMemory` if it cannot be had.
     pub fn new(alloc: Global) -> Result<CallRoom, Fault>
         ensures fault { IfErr result (λ f. f ≡ Fault.NoMemory) }
     {

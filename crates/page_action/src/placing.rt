@@ -40,8 +40,9 @@ fn is_placeable(block: u32, used: u32, limits: Format) -> bool
     block <= used && block < limits.pages
 }
 
-/// The block of the first of these pages that an act may not change beside those after it: the page may not be written, its
-/// block is neither in use nor the next unused one, or a later page is of the same block. None: the act may be done.
+/// The block of the first of these pages that an act may not change beside those after it: the page may not
+/// be written, its block is neither in use nor the next unused one, or a later page is of the same block.
+/// None: the act may be done.
 pub fn find_misplaced(pages: &[Page], used: u32, limits: Format) -> Option<u32>
     ensures none { IfNone result (AreActable limits used pages.now) }
     ensures some { IfSome result (λ block. AreActable limits used pages.now → ⊥) }
@@ -59,7 +60,8 @@ pub fn find_misplaced(pages: &[Page], used: u32, limits: Format) -> Option<u32>
     None
 }
 
-// Puts a copy of the page at the next unused block. Few pages are new: the others are spared the room for a copy.
+// Puts a copy of the page at the next unused block. Few pages are new: the others are spared the room for a
+// copy.
 #[inline(never)]
 fn add_page(pages: &mut Vec<Page>, page: &Page)
     requires { vec_len pages.old < vec_capacity pages.old }

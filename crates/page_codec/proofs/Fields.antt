@@ -1,5 +1,5 @@
--- What bytes are read as, field by field, where each field is tested as little as it can be: with it, two pages of the same
--- bytes are one.
+-- What bytes are read as, field by field, where each field is tested as little as it can be: with it, two
+-- pages of the same bytes are one.
 use Rattle.std.specs.Prelude.{ℕ, zero, suc, ◌%◌, ◌==◌, if◌then◌else◌, nat_lt, Option, Some, None, List, [], ◌∷◌, take, drop, slice_index}
 use Rattle.page_codec.proofs.Imports.{little_number, Entry, Bound, Layout, One, Two, PageState, Live, HalfDead, Deleted, Downlink, Items, Meta, Entries, Downlinks, Page}
 
@@ -9,7 +9,8 @@ abbrev pub ◌>>=◌ : {A B : Type 0} → Option A → (A → Option B) → Opti
 None >>= f = None
 (Some x) >>= f = f x
 
--- no bound, where the offset and the length of the key are 0; the place before all rows of a key, where the offset alone is
+-- no bound, if the offset and the length of the key are 0; the place before all rows of a key, if the
+-- offset alone is
 abbrev pub slot_from : ℕ → ℕ → ℕ → List ℕ → Option (Option Bound)
 slot_from len block offset key =
     if nat_lt 64 len then None
@@ -40,13 +41,13 @@ unfoldable pub downlink_at : List ℕ → Option Downlink
 downlink_at bytes =
     slot_at bytes >>= λ b. Some (record { bound = b; child = little_number 4 (drop 71 bytes) })
 
--- so many items, each in so many bytes
+-- a number of items, each in as many bytes as the next number says
 unfoldable pub items_at : {A : Type 0} → (List ℕ → Option A) → ℕ → ℕ → List ℕ → Option (List A)
 items_at item width zero bytes = Some []
 items_at item width (suc n) bytes =
     item bytes >>= λ x. items_at item width n (drop width bytes) >>= λ xs. Some (x ∷ xs)
 
--- so many items of the kind that this byte names
+-- `count` items of the kind that this byte names
 unfoldable pub items_of : ℕ → ℕ → List ℕ → Option Items
 items_of kind count bytes =
     if nat_lt 50 count then None

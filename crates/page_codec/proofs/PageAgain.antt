@@ -67,7 +67,7 @@ pub length-head : (p : Page) → length (head_bytes p) ≡ 36
 unfolding head_bytes
 length-head p = refl
 
--- the fields of a page, where its bytes have them
+-- the fields of a page, if its bytes have them
 pub record HasFields (p : Page) (bytes : List ℕ) : Type 0 where
   pub layout : slice_index bytes 3 ≡ layout_digit p.layout
   pub block : little_number 4 (drop 4 bytes) ≡ p.block

@@ -42,7 +42,7 @@ pub zeros_of_none : (bytes : List ℕ) → Begins (slot_bytes None) bytes → Be
 unfolding slot_bytes
 zeros_of_none bytes h = h
 
--- where six zeros stand there is no row, and elsewhere there is one
+-- if six zeros stand there is no row, and elsewhere there is one
 pub no_row_there : (key : List ℕ) (r : Option Row) (bytes : List ℕ) → IsRowIn Two key r → Begins (row_bytes r) bytes → Begins (replicate 6 0) bytes → r ≡ None
 no_row_there key None bytes h b zeros = refl
 no_row_there key (Some r) bytes h b zeros = absurd (row_is_no_zeros r bytes h b zeros)
@@ -110,12 +110,12 @@ bound_is_no_zeros : (key : List ℕ) (r : Option Row) (bytes : List ℕ) → len
 bound_is_no_zeros key None bytes fits h front behind zeros = key_is_no_zeros key bytes h fits front zeros
 bound_is_no_zeros key (Some r) bytes fits h front behind zeros = row_is_no_zeros r (drop 65 bytes) h behind (begins_after (replicate 65 0) (replicate 6 0) bytes 65 refl zeros)
 
--- where zeros stand there is no bound
+-- if zeros stand there is no bound
 pub none_there : (b : Option Bound) (bytes : List ℕ) → IfSome b (IsBoundIn Two) → Begins (slot_bytes b) bytes → Begins (replicate 71 0) bytes → None ≡ b
 none_there None bytes h begins zeros = refl
 none_there (Some w) bytes h begins zeros = let at = parts_of_bound w bytes h begins in absurd (bound_is_no_zeros w.key w.row bytes h.key h.row at.key at.row zeros)
 
--- where no zeros stand there is one
+-- if no zeros stand there is one
 pub some_there : (b : Option Bound) (bytes : List ℕ) → IfSome b (IsBoundIn Two) → Begins (slot_bytes b) bytes → (Begins (replicate 71 0) bytes → ⊥)
     → (w : Bound) × (b ≡ Some w) × IsBoundAt w bytes
 some_there None bytes h begins zeros = absurd (zeros (zeros_of_none bytes begins))

@@ -20,8 +20,8 @@ use Rattle.page_codec.specs.declared.page.Page.{Page}
 abbrev pub IsBlock : ℕ → Type 0
 IsBlock n = (0 < n) × (n < 65536)
 
--- what may stand after the key of a bound in this layout: a valid row; in layout 2 also none, after a key that isn't
--- empty, for the place before all its rows
+-- what may stand after the key of a bound in this layout: a valid row; in layout 2 also none, after a key
+-- that isn't empty, for the place before all its rows
 abbrev pub IsRowIn : Layout → List ℕ → Option Row → Type 0
 IsRowIn One key None = ⊥
 IsRowIn Two key None = 0 < length key
@@ -62,12 +62,13 @@ pub record IsDownlink (layout : Layout) (d : Downlink) : Type 0 where
   pub bound : IfSome d.bound (IsBoundIn layout)
   pub child : IsBlock d.child
 
--- the entry is less than the first of those after it, or, where it is the last, at most the high key
+-- the entry is less than the first of those after it, or, if it is the last, at most the high key
 abbrev pub EntryInPlace : Option Bound → Entry → List Entry → Type 0
 EntryInPlace high e [] = IsUpTo high e
 EntryInPlace high e (x ∷ xs) = EntryBefore e x
 
--- the downlink's bound is less than that of the first of those after it, or, where it is the last, than the high key
+-- the downlink's bound is less than that of the first of those after it, or, if it is the last, than the
+-- high key
 abbrev pub LinkInPlace : Option Bound → Downlink → List Downlink → Type 0
 LinkInPlace high d [] = Below high d
 LinkInPlace high d (x ∷ xs) = LinkBefore d x
@@ -139,8 +140,8 @@ pub record IsLeaf (p : Page) (es : List Entry) : Type 0 where
   pub count : length es ≤ 50
   pub rest : IsLeafIn p.state p es
 
--- an internal page: level 1 to 31, live, a high key exactly if there is a right link, the
--- incomplete split only with a right link, 1 to 50 downlinks of which the first has minus infinity
+-- an internal page: it is live and of level 1 to 31; it has a high key exactly if it has a right link, and an
+-- incomplete split only with one; it has 1 to 50 downlinks, of which the first has minus infinity
 pub record IsInternal (p : Page) (ds : List Downlink) : Type 0 where
   pub block : IsBlock p.block
   pub level : (0 < p.level) × (p.level ≤ 31)

@@ -18,7 +18,7 @@ fn copy_list<T: Copy + Default + Drop>(list: &ArrayVec<T, 50>, target: &mut Arra
     let _ = target.try_extend_from_slice(&source[kept..]);
 }
 
-/// Takes all entries out of a page's items, or makes room for some where there were none.
+/// Takes all entries out of a page's items, or makes room for some if there were none.
 #[inline(never)]
 pub fn clear_entries(items: &mut Items)
     ensures { items.new ≡ Items.Entries (record { items = [] }) }
@@ -29,7 +29,7 @@ pub fn clear_entries(items: &mut Items)
     }
 }
 
-// Makes room for downlinks where there were none.
+// Makes room for downlinks if there were none.
 #[inline(never)]
 fn clear_links(items: &mut Items)
     ensures { items.new ≡ Items.Downlinks (record { items = [] }) }
@@ -58,7 +58,7 @@ fn replace_items(items: &Items, target: &mut Items)
     }
 }
 
-// Makes the items those of another page, in place where both are of one kind.
+// Makes the items those of another page, in place if both are of one kind.
 fn copy_items(items: &Items, target: &mut Items)
     ensures { target.new ≡ items.now }
 {
@@ -79,7 +79,7 @@ impl Page {
         page
     }
 
-    /// Makes another page the same as this one, in its place: quicker than a copy where both are of one kind.
+    /// Makes another page the same as this one, in its place: quicker than a copy if both are of one kind.
     pub fn copy_to(&self, target: &mut Page)
         ensures { target.new ≡ self.now }
     {

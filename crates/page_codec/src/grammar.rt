@@ -1,4 +1,4 @@
-//! Which pages the format admits, judged.
+//! Judges whether the format admits a page.
 
 ghost use Rattle.std.specs.Prelude.{◌≡◌, ◌↔◌, ◌≤◌, IsTrue, IfSome, List, length};
 ghost use Rattle.std.specs.List.{AllByRecursion};
@@ -57,7 +57,7 @@ fn is_up_to(high: &Option<Bound>, entry: &Entry) -> bool
     }
 }
 
-// Whether it is less than the first of those after it, or, where it is the last, at most the high key.
+// Whether it is less than the first of those after it, or, if it is the last, at most the high key.
 fn is_entry_in_place(entry: &Entry, tail: &[Entry], high: &Option<Bound>) -> bool
     ensures { IsTrue result ↔ EntryInPlace high.now entry.now tail.now }
 {
@@ -96,7 +96,8 @@ fn is_below(high: &Option<Bound>, link: &Downlink) -> bool
     }
 }
 
-// Whether its bound is less than that of the first of those after it, or, where it is the last, than the high key.
+// Whether its bound is less than that of the first of those after it, or, if it is the last, than the high
+// key.
 fn is_link_in_place(link: &Downlink, tail: &[Downlink], high: &Option<Bound>) -> bool
     ensures { IsTrue result ↔ LinkInPlace high.now link.now tail.now }
 {

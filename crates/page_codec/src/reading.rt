@@ -88,7 +88,8 @@ fn entry(bytes: &[u8]) -> Option<Entry>
     Some(Entry { key, row })
 }
 
-// The bound in the first 71 bytes, or none, where they are zeros. A row of zeros is none: the place before all rows of the key.
+// The bound in the first 71 bytes, or none, if they are zeros. A row of zeros is none: the place before
+// all rows of the key.
 fn slot(bytes: &[u8]) -> Option<Option<Bound>>
     requires { 71 ≤ length bytes.now }
     ensures found { IfSome result
@@ -137,8 +138,8 @@ fn put(list: &mut ArrayVec<Entry, 50>, at: usize, entry: Entry)
     }
 }
 
-// Reads so many entries over those that stand there: to clear these first would take longer. Never inlined, so that its loop
-// has all registers.
+// Reads `count` entries over those that stand there: to clear these first would take longer. Never inlined,
+// so that its loop has all registers.
 #[inline(never)]
 fn entries(count: usize, bytes: &[u8], into: &mut ArrayVec<Entry, 50>) -> bool
     requires count { count ≤ 50 }
@@ -159,7 +160,7 @@ fn entries(count: usize, bytes: &[u8], into: &mut ArrayVec<Entry, 50>) -> bool
     true
 }
 
-// Reads so many downlinks.
+// Reads `count` downlinks.
 fn downlinks(count: usize, bytes: &[u8]) -> Option<ArrayVec<Downlink, 50>>
     requires count { count ≤ 50 }
     requires room { 75 * count ≤ length bytes.now }
@@ -290,9 +291,9 @@ pub fn is_unused(bytes: &[u8; 4096]) -> bool
     *bytes == [0; 4096]
 }
 
-/// Reads the page of these bytes into the place of another: true exactly if they are the bytes that [`encode`] writes for a
-/// page that the format admits, and `page` is that page then. False exactly if they are those of no such page, and what
-/// `page` holds then has no meaning. It takes no memory.
+/// Reads the page of these bytes into the place of another: true exactly if they are the bytes that
+/// [`encode`] writes for a page that the format admits, and `page` is that page then. False exactly if they
+/// are those of no such page, and what `page` holds then has no meaning. It takes no memory.
 pub fn decode_into(bytes: &[u8; 4096], page: &mut Page) -> bool
     ensures found { IsTrue result → IsPage page.new × (bytes.now ≡ page_bytes page.new) }
     ensures only { (p : Page) → IsPage p → bytes.now ≡ page_bytes p

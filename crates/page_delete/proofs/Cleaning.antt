@@ -5,7 +5,7 @@ use Rattle.page_delete.proofs.Imports.{no_leaf_count, IsEmptyAt, IsFoundEmpty, c
 use Rattle.page_delete.proofs.Imports.{tries, passes, MovesState, LeafDies, PageIsDeleted, CleanupAt, Start, Unlink, CleanupOp}
 use Rattle.page_delete.proofs.Moving.{leaf_count, dead_count}
 
--- after a page that has so many entries and isn't half-dead
+-- after a page that has `count` entries and isn't half-dead
 pub cleaned_past : (st : State) (op : CleanupOp) (count : ℕ) → IsCleaned st op → suc op.cursor ≤ length st.pages
     → entry_count (slice_get st.pages op.cursor) ≡ count → state_in st op.cursor ≢ HalfDead → IsCleaned st (moved_past op count)
 cleaned_past st op count h inside is alive = record {

@@ -2,7 +2,7 @@
 use Rattle.std.proofs.Common.{◌≡◌, ℕ, Bool, Option, Some, None, ◌∷◌, ◌++◌, map, slice_get, refl}
 use Rattle.page_delete.proofs.Imports.{Page, HalfDead, State, sibling, blocks_unlinked_at, IsTakenLeft, unlinked}
 
--- the blocks that are written where a half-dead page is unlinked
+-- the blocks that are written when a half-dead page is unlinked
 pub dead_blocks : (st : State) (page : Page) → slice_get st.pages page.block ≡ Some page → page.state ≡ HalfDead
     → blocks_unlinked_at page.block st ≡ sibling page.left ++ page.block ∷ sibling page.right
 dead_blocks st page found dead = rw (found, dead) refl

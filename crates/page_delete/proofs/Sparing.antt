@@ -113,7 +113,7 @@ links_there (Entries v) [] x ys e = cc
 links_there (Entries v) (b ∷ bs) x ys e = cc
 links_there (Downlinks v) before x ys e = tt
 
--- where no other session holds anything, nobody else holds the page
+-- if no other session holds anything, nobody else holds the page
 free_alone : (table : Table) (session block : ℕ) → ((other : ℕ) → other ≢ session → holding_of table other ≡ nothing_held) → is_held_by_another table session block Cleanup ≡ false
 free_alone table session block alone = go 0 table (λ k differ. alone k (λ same. differ (let e : k ≡ session = same in omega (arith, e))))
   where
@@ -250,7 +250,7 @@ judged_stays st session block parent order alone none m not_to_die = with_right 
                 links_are : links_of parent_there.0.items ≡ both.before ++ record { bound = both.bound; child = block } ∷ record { bound = both.own; child = r } ∷ both.after
                 links_are = sym (ap (λ (n : Node). n.links) parent_node) ∙ both.is
 
--- where the root is a leaf, no empty leaf may go
+-- if the root is a leaf, no empty leaf may go
 pub no_root_leaf : (st : State) (block : ℕ) (high : Bound) → (has : HasTree st) → has.tree.meta.level ≡ 0 → MayGo st block high → ⊥
 no_root_leaf st block high has low m = by m.leaf.right refl m.may_die.right
   where

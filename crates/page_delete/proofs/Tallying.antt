@@ -11,7 +11,7 @@ told_by_state pages b = by (slice_get pages b)
     by None = refl
     by (Some page) = refl
 
--- where the same of the first blocks are deleted
+-- if the same of the first blocks are deleted
 same_below : (old new : State) (n : ℕ) → ((b : ℕ) → b < n → is_deleted new.pages b ≡ is_deleted old.pages b) → deleted_count new n ≡ deleted_count old n
 same_below old new zero same = refl
 same_below old new (suc n) same =

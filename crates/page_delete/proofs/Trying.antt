@@ -16,7 +16,7 @@ pub if_err_map : (r : Result Bool Fault) (P Q : Fault → Type 0) → ((e : Faul
 if_err_map (Ok b) P Q f h = h
 if_err_map (Err e) P Q f h = f e h
 
--- where nothing was changed, leaves are as they were
+-- if nothing was changed, leaves are as they were
 pub pinned_same : (session : ℕ) (old new : State) → new ≡ old → PinnedLeafPagesStay session old new
 pinned_same session old new same other block page differ at pin =
     subst (λ (st : State). WasLeaf st.pages block) (sym same) (record { page = page; was = at })

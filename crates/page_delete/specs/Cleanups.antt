@@ -27,8 +27,9 @@ use Rattle.page_delete.specs.declared.steps.CleanupOp.{CleanupOp}
 use Rattle.page_delete.specs.declared.steps.CleanupStep.{CleanupStep}
 use Rattle.page_delete.specs.declared.steps.CleanupStep.TheVariants.{Going, Finished}
 
--- The leaf at the cursor is on the chain of leaves, or was deleted since; its parent is looked for on the way to its high key,
--- or may be this page of the level above, from which right links lead to the one that covers the high key.
+-- The leaf at the cursor is on the chain of leaves, or was deleted since. Its parent is looked for on the way
+-- to its high key. Or it may be this page of the level above, from which right links lead to the one that
+-- covers the high key.
 abbrev pub CleanupIsUnderway : State → ℕ → ℕ → CleanupAt → Type 0
 CleanupIsUnderway st start cursor Look = Unit {0}
 CleanupIsUnderway st start cursor (Start high) = HasTrail st start 0 cursor 0
@@ -103,11 +104,12 @@ CleanupHasLessLeft old new before after (Ok Going) =
 CleanupHasLessLeft old new before after (Ok (Finished stats)) = Unit {0}
 CleanupHasLessLeft old new before after (Err fault) = Unit {0}
 
--- A step of a cleanup. On any pages: it does one act at most and holds nothing after it, a refused one changes nothing, a
--- stopped log refuses it, each that goes on leaves less to do, and the statistics are told as they are. Over a device that
--- keeps its model: live leaves that others have pinned stay; it counts the pages that it deletes; where nobody else acts, it
--- counts the entries, and leaves no half-dead page after it; on pages in order: what it does, where it goes on, why it is
--- refused, and, where nobody else holds a page, which empty leaves stay.
+-- A step of a cleanup. On any pages: it does one act at most and holds nothing after it; a refused one
+-- changes nothing; a stopped log refuses it; each that goes on leaves less to do; the statistics are right.
+-- Over a device that keeps its model: live leaves that others have pinned stay; it counts the pages that it
+-- deletes; if nobody else acts, it counts the entries, and leaves no half-dead page that it has passed. On
+-- pages in order: what it does, where it goes on, why it is refused, and, if nobody else holds a page, which
+-- empty leaves stay.
 pub record CleanupSteps {S : Type 0} (g : Ghosts S) (before after : CleanupOp) (old new : S)
     (result : Result CleanupStep Fault) : Type 0 where
   pub steps : Continues g.follows old new

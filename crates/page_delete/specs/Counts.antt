@@ -1,4 +1,4 @@
--- What a cleanup counts, and what it has cleaned, where nobody else acts.
+-- What a cleanup counts, and what it has cleaned, if nobody else acts.
 use Rattle.std.specs.Prelude.{◌≡◌, ◌≢◌, ℕ, suc, ◌+◌, ◌<◌, ◌≤◌, Result, Ok, Err, length, slice_get}
 use Rattle.index_model.specs.declared.fault.Fault.{Fault}
 use Rattle.page_codec.specs.declared.page.PageState.TheVariants.{HalfDead}
@@ -31,8 +31,9 @@ come_to cursor (Down high position) = suc cursor
 come_to cursor (Judge high parent) = suc cursor
 come_to cursor Unlink = suc cursor
 
--- Where nobody else acted since it began: the pages before the cursor have as many entries as it counted, and none of them is
--- half-dead; it has come to blocks in use alone, and has unlinked fewer pages than it went past.
+-- If nobody else acted since it began: the pages before the cursor have as many entries as it counted, and
+-- none of them is half-dead; it has come to blocks in use alone, and has unlinked fewer pages than it went
+-- past.
 pub record IsCleaned (st : State) (op : CleanupOp) : Type 0 where
   pub counted : op.left ≡ entries_below st.pages op.cursor
   pub none_dead : (block : ℕ) → block < op.cursor → state_in st block ≢ HalfDead
@@ -40,7 +41,7 @@ pub record IsCleaned (st : State) (op : CleanupOp) : Type 0 where
   pub within : come_to op.cursor op.at ≤ length st.pages
   pub fewer : op.deleted < op.cursor
 
--- all pages in use have so many entries, and none of them is half-dead
+-- all pages in use have `count` entries, and none of them is half-dead
 pub record AllIsCleaned (st : State) (count : ℕ) : Type 0 where
   pub counted : count ≡ entries_below st.pages (length st.pages)
   pub none_dead : (block : ℕ) → block < length st.pages → state_in st block ≢ HalfDead
@@ -55,7 +56,8 @@ CleansOn new after (Err fault) = IsCleaned new after
 abbrev pub deleted_in : State → ℕ
 deleted_in st = deleted_count st (length st.pages)
 
--- as many more pages are deleted after a step as it has counted more; at the end it tells as many as it has counted
+-- as many more pages are deleted after a step as it has counted more; at the end it tells as many as it has
+-- counted
 abbrev pub CountsDeleted : State → State → CleanupOp → CleanupOp → Result CleanupStep Fault → Type 0
 CountsDeleted old new before after (Ok Going) =
     deleted_in new + before.deleted ≡ deleted_in old + after.deleted

@@ -24,9 +24,9 @@ pub record IsHandingOn (parent : Page) (leaf right at : ℕ) : Type 0 where
   pub level : parent.level ≡ 1
   pub place : IsHandingPlace (links_of parent.items) leaf right at
 
--- The leaf of this block is to be made half-dead: nobody else holds a latch or a pin of it; it is live and empty, without an incomplete split
--- and not right after a page with an incomplete split; its right sibling is live, and in this parent the downlink after its own leads to
--- that.
+-- The leaf of this block is to be made half-dead: nobody else holds a latch or a pin of it; it is live and
+-- empty, without an incomplete split and not right after a page with an incomplete split; its right sibling
+-- is live, and in this parent the downlink after its own leads to that.
 pub record IsToDie (st : State) (session block parent : ℕ) : Type 0 where
   pub free : is_held_by_another st.table session block Cleanup ≡ false
   pub leaf : Page

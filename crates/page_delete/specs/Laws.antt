@@ -28,7 +28,7 @@ abbrev pub NothingIsCleaned : Type 0
 NothingIsCleaned =
     (st : State) (session : ℕ) → IsInOrder st → IsCleaned st (fresh_cleanup session)
 
--- ... and where no page is half-dead, no other empty leaf is left after than has to stay
+-- ... and if no page is half-dead, it has left no empty leaf but those that have to stay
 abbrev pub NothingIsSpared : Type 0
 NothingIsSpared =
     (st : State) (session : ℕ) → IsInOrder st → ((block : ℕ) → state_in st block ≢ HalfDead)

@@ -9,7 +9,8 @@ use Rattle.tree_acts.specs.StepEffects.{sibling, frames_for, causes_of_working}
 use Rattle.page_delete.specs.declared.steps.CleanupAt.{CleanupAt}
 use Rattle.page_delete.specs.declared.steps.CleanupAt.TheVariants.{Look, Start, Down, Judge, Unlink}
 
--- the blocks that are written where a half-dead page of this block is unlinked from these siblings: its own and theirs
+-- the blocks that are written when a half-dead page of this block is unlinked from these siblings: its own
+-- and theirs
 abbrev pub blocks_unlinked : PageState → ℕ → Option ℕ → Option ℕ → List ℕ
 blocks_unlinked Live block left right = []
 blocks_unlinked HalfDead block left right = sibling left ++ block ∷ sibling right
@@ -22,7 +23,7 @@ blocks_unlinked_of block (Some page) = blocks_unlinked page.state block page.lef
 abbrev pub blocks_unlinked_at : ℕ → State → List ℕ
 blocks_unlinked_at block st = blocks_unlinked_of block (slice_get st.pages block)
 
--- the blocks that are written where a leaf is made half-dead: its own and its parent's
+-- the blocks that are written when a leaf is made half-dead: its own and its parent's
 abbrev pub blocks_judged : ℕ → ℕ → State → List ℕ
 blocks_judged leaf parent st = leaf ∷ parent ∷ []
 

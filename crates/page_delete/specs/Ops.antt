@@ -26,7 +26,7 @@ fresh_cleanup session = record {
 abbrev pub turned_to : CleanupOp → CleanupAt → CleanupOp
 turned_to op at = record op { at = at }
 
--- the cleanup after the page at the cursor, on which it counted so many entries
+-- the cleanup after the page at the cursor, on which it counted `count` entries
 abbrev pub moved_past : CleanupOp → ℕ → CleanupOp
 moved_past op count = record op { cursor = suc op.cursor; at = Look; left = op.left + count }
 
@@ -42,8 +42,8 @@ is_last_number count = count == 4294967295
 abbrev pub cleanup_counted_out : CleanupOp → Bool
 cleanup_counted_out op = is_full_count op.left || (is_last_number op.cursor || is_last_number op.deleted)
 
--- where the page at the cursor leads the cleanup: a half-dead one is unlinked; for an empty leaf the parent is looked for;
--- any other is passed
+-- where the page at the cursor leads the cleanup: a half-dead one is unlinked; for an empty leaf the parent
+-- is looked for; any other is passed
 pub data TurnsAt (page : Page) (before after : CleanupOp) : Type 0 where
   unlinks : page.state ≡ HalfDead → after ≡ turned_to before Unlink → TurnsAt page before after
   tries : (high : Bound) → MayDie page → page.high ≡ Some high → after ≡ turned_to before (Start high)

@@ -115,7 +115,8 @@ pub record IsTakenToChange (st : State) (honest : Bool) (session block : ℕ) (p
   pub used : block < length st.pages
   pub free : is_held_by_another st.table session block Exclusive ≡ false
 
--- an act by which a leaf goes on its way out of the tree; the numbers that the session's own call keeps stay good too
+-- an act by which a leaf goes on its way out of the tree; the numbers that the session's own call keeps stay
+-- good too
 pub record DeletesOn (session : ℕ) (old new : State) : Type 0 where
   pub does : CleanupEffect session (Some Shape) old new
   pub own : (start : ℕ) → slice_get old.running session ≡ Some (Some start)
@@ -128,9 +129,9 @@ PinnedLeafPagesStay session old new =
     (other block : ℕ) (page : Page) → other ≢ session → IsLeafAt old.pages block page
     → has_pin (holding_of old.table other).pins block ≡ true → WasLeaf new.pages block
 
--- A part of a step that may do one act, by which a leaf goes on its way out of the tree: it answers whether it did. Where it
--- did not, nothing is changed, and there is a reason; nor where it is refused, and on pages in order there is a cause, by
--- which pages it writes. Leaves that others have pinned stay.
+-- A part of a step that may do one act, by which a leaf goes on its way out of the tree: it answers whether
+-- it did. If it did not, nothing is changed, and there is a reason; nor if it is refused, and on pages
+-- in order there is a cause, by which pages it writes. Leaves that others have pinned stay.
 pub record IsTried {S : Type 0} (g : Ghosts S) (session : ℕ) (written : State → List ℕ)
     (sure : State → Type 0) (change : State → State → Type 0) (reason : State → Type 0)
     (old new : S) (result : Result Bool Fault) : Type 0 where
@@ -181,7 +182,7 @@ pub record IsTakenRight (st : State) (honest : Bool) (session : ℕ) (page : Pag
   pub taken : IsTakenToChange st honest session block sibling
   pub links : sibling.left ≡ Some page.block
 
--- ... to its left: none where there is none
+-- ... to its left: none if there is none
 abbrev pub IsTakenLeft : State → Bool → ℕ → Page → Option ℕ → Option Page → Type 0
 IsTakenLeft st honest session page None None = Unit {0}
 IsTakenLeft st honest session page None (Some sibling) = ⊥
@@ -194,7 +195,8 @@ abbrev pub HalfDeadAnswers : Page → Option ℕ → Type 0
 HalfDeadAnswers page (Some right) = (page.state ≡ HalfDead) × (page.right ≡ Some right)
 HalfDeadAnswers page None = page.state ≡ HalfDead → page.right ≡ None
 
--- the pages of an act that unlinks a page: its siblings linked to each other, and the page deleted, all in the second layout
+-- the pages of an act that unlinks a page: its siblings linked to each other, and the page deleted, all in
+-- the second layout
 abbrev pub unlinked : Option Page → Page → Page → ℕ → List Page
 unlinked None page right number =
     as_deleted page number ∷ record right { layout = Two; left = page.left } ∷ []
@@ -202,8 +204,8 @@ unlinked (Some left) page right number =
     record left { layout = Two; right = Some right.block } ∷ as_deleted page number
     ∷ record right { layout = Two; left = page.left } ∷ []
 
--- no page has more entries on live leaves, or fewer; the page of the block moves from one state to another, and no other page's
--- state is changed
+-- no page has more entries on live leaves, or fewer; the page of the block moves from one state to another,
+-- and no other page's state is changed
 pub record MovesState (block : ℕ) (was is : PageState) (old new : State) : Type 0 where
   pub counts : (b : ℕ) → entry_count (slice_get new.pages b) ≡ entry_count (slice_get old.pages b)
   pub others : (b : ℕ) → b ≢ block → state_in new b ≡ state_in old b

@@ -1,4 +1,4 @@
--- Which empty leaves a cleanup leaves in the tree, where nobody else acts.
+-- Which empty leaves a cleanup leaves in the tree, if nobody else acts.
 use Rattle.std.specs.Prelude.{◌≡◌, ◌≢◌, ℕ, ◌<◌, Some, Result, Ok, Err, [], length, slice_get}
 use Rattle.index_model.specs.declared.bound.Bound.{Bound}
 use Rattle.index_model.specs.declared.fault.Fault.{Fault}
@@ -31,11 +31,12 @@ pub record IsEmptyLeaf (st : State) (block : ℕ) : Type 0 where
   pub leaf : (nodes_of st.pages block).level ≡ 0
   pub empty : (nodes_of st.pages block).entries ≡ []
 
--- it is the rightmost leaf, or with an incomplete split, or right after one with an incomplete split, or the last child of its parent
+-- it is the rightmost leaf, has an incomplete split, stands right after a page with one, or is the last child
+-- of its parent
 abbrev pub HasToStay : State → ℕ → Type 0
 HasToStay st block = MustStay (nodes_of st.pages) (length st.pages) block
 
--- an empty leaf that may die, so far as its own page tells, with this high key
+-- an empty leaf with this high key that may leave the tree, by what its own page says
 pub record MayGo (st : State) (block : ℕ) (high : Bound) : Type 0 where
   pub leaf : Page
   pub found : slice_get st.pages block ≡ Some leaf
@@ -56,8 +57,8 @@ IsSought st cursor (Down high position) = MayGo st cursor high
 IsSought st cursor (Judge high parent) = MayGoFrom st cursor parent
 IsSought st cursor Unlink = state_in st cursor ≡ HalfDead
 
--- Where nobody else acted since it began, and no page was half-dead then: no page is, but one at the cursor that is to be
--- unlinked next, and each empty leaf before the cursor has to stay.
+-- If nobody else acted since it began, and no page was half-dead then: no page is, but one at the cursor
+-- that is to be unlinked next, and each empty leaf before the cursor has to stay.
 pub record IsSparing (st : State) (op : CleanupOp) : Type 0 where
   pub none_dead : (block : ℕ) → state_in st block ≡ HalfDead
       → (block ≡ op.cursor) × (op.at ≡ Unlink)

@@ -26,14 +26,14 @@ MovesFromPage high position before after =
     ((on : Position) × (after ≡ turned_to before (Down high on)))
     ⊎ (after ≡ turned_to before (Judge high position.block))
 
--- the leaf is made half-dead where it is to be, and passed where not
+-- the leaf is made half-dead if it is to be, and passed if not
 abbrev pub JudgesLeaf : State → ℕ → CleanupOp → Option Effect → CleanupOp → Type 0
 JudgesLeaf st parent before effect after =
     ((effect ≡ Some Shape) × (after ≡ turned_to before Unlink))
     ⊎ ((effect ≡ None) × (after ≡ moved_past before 0)
     × (IsToDie st before.session before.cursor parent → ⊥))
 
--- the page is unlinked where it is half-dead, and passed where not
+-- the page is unlinked if it is half-dead, and passed if not
 abbrev pub UnlinksPage : State → CleanupOp → Option Effect → CleanupOp → Type 0
 UnlinksPage st before effect after =
     ((effect ≡ Some Shape) × (after ≡ moved_past_deleted before))

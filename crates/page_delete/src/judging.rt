@@ -51,8 +51,8 @@ fn candidate<S: PageStore>(
     }
 }
 
-// Whether the page to the left of a leaf, if there is one, has no incomplete split. Refused with `PageDamaged` for one that does
-// not link to the leaf.
+// Whether the page to the left of a leaf, if there is one, has no incomplete split. Refused with
+// `PageDamaged` for one that does not link to the leaf.
 fn left_is_whole<S: PageStore>(store: &mut S, session: Session, leaf: &Page) -> Result<bool, Fault>
     ensures steps { Continues S.follows store.old store.new }
     ensures state { S.state store.new ≡ S.state store.old }
@@ -86,7 +86,8 @@ fn is_live(state: PageState) -> bool
     matches!(state, PageState::Live)
 }
 
-// Whether the page to the right of a leaf is live. Refused with `PageDamaged` for one that does not link to the leaf.
+// Whether the page to the right of a leaf is live. Refused with `PageDamaged` for one that does not link to
+// the leaf.
 fn right_is_live<S: PageStore>(
     store: &mut S,
     session: Session,
@@ -115,7 +116,7 @@ fn right_is_live<S: PageStore>(
     }
 }
 
-// The right sibling of a leaf, where its siblings allow that it is made half-dead.
+// The right sibling of a leaf, if its siblings allow that it is made half-dead.
 fn siblings_allow<S: PageStore>(
     store: &mut S,
     session: Session,
@@ -166,7 +167,7 @@ fn next_leads(links: &[Downlink], at: usize, right: u32) -> bool
     }
 }
 
-// The place of the downlink to the leaf, where it is to lead to the right sibling instead.
+// The place of the downlink to the leaf, if it is to lead to the right sibling instead.
 fn handing_place(parent: &Page, leaf: u32, right: u32) -> Option<usize>
     ensures some { IfSome result (IsHandingOn parent.now leaf right) }
     ensures none { IfNone result ((at : ℕ) → IsHandingOn parent.now leaf right at → ⊥) }
@@ -260,7 +261,7 @@ fn try_beside<S: PageStore>(
 }
 
 impl CleanupOp {
-    // Makes the leaf at the cursor half-dead, if it is to be: whether it did.
+    // Makes the leaf at the cursor half-dead, if it is to be. Answers whether it did.
     pub fn try_leaf<S: PageStore>(&self, store: &mut S, parent: u32) -> Result<bool, Fault>
         ensures all { IsTried S.PageStore self.now.session (blocks_judged self.now.cursor parent)
             (BlocksAreInUse self.now.cursor parent) (LeafDies self.now.cursor)

@@ -12,8 +12,8 @@ pub fn cleanups_are_bounded()
     ensures { CleanupsAreBounded }
 {}
 
-/// Does nothing: its clauses say that at the beginning of a cleanup nothing is counted, and no half-dead page is after it,
-/// nor, where there is none, an empty leaf that might go.
+/// Does nothing: its clauses say that at the beginning of a cleanup nothing is counted, and that it has left
+/// nothing to clean: no half-dead page, nor, if there is none, an empty leaf that might go.
 pub fn nothing_is_cleaned()
     ensures counts { NothingIsCleaned }
     ensures spares { NothingIsSpared }

@@ -1,5 +1,5 @@
-//! Page deletion: empty leaves leave the tree, in two acts each, while others insert and scan. One page a step is looked at,
-//! in block order.
+//! Page deletion: empty leaves leave the tree, in two acts each, while others insert and scan. One page a
+//! step is looked at, in block order.
 #![tactic(auto)]
 
 mod judging;

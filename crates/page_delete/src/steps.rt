@@ -15,12 +15,13 @@ use tree_shape::SearchKey;
 pub enum CleanupAt {
     /// It looks at the page at the cursor.
     Look,
-    /// It reads the metapage, on the way to the parent of the empty leaf at the cursor, whose high key this is.
+    /// It reads the metapage, on the way to the parent of the empty leaf at the cursor, whose high key this
+    /// is.
     Start(Bound),
     /// It reads a page on that way.
     Down(Bound, Position),
-    /// It tests the leaf at the cursor, its siblings and this page, which may be its parent, and makes the leaf half-dead
-    /// if it may. The page was found on the way to this high key.
+    /// It tests the leaf at the cursor, its siblings and this page, which may be its parent, and makes the
+    /// leaf half-dead if it may. The page was found on the way to this high key.
     Judge(Bound, u32),
     /// It unlinks the half-dead page at the cursor.
     Unlink,
@@ -66,13 +67,15 @@ impl CleanupOp {
         }
     }
 
-    /// Makes one step. An empty leaf leaves the tree in two acts, of which each is one step: it is made half-dead, then
-    /// unlinked and deleted. A half-dead page that is found is unlinked too. A leaf on which another session holds a latch or
-    /// a pin is passed. After `Finished` and after each fault but `Blocked` the call is over, and its store's `end` is due.
+    /// Makes one step. An empty leaf leaves the tree in two acts, of which each is one step: it is made
+    /// half-dead, then unlinked and deleted. A half-dead page that is found is unlinked too. A leaf on which
+    /// another session holds a latch or a pin is passed. After `Finished` and after each fault but `Blocked`
+    /// the call is over, and its store's `end` is due.
     ///
-    /// Refused with `Blocked` (4) where another session holds a latch of a page that conflicts, and the same step may be made
-    /// again; with `Io` (2), `Stopped` (3), `LogFull` (9), `NoFrame` (10); with `PageDamaged` (17) on pages that are no tree:
-    /// for a sibling that does not link back, among others. A refused step changes nothing.
+    /// Refused with `Blocked` (4) if another session holds a latch of a page that conflicts, and the same
+    /// step may be made again; with `Io` (2), `Stopped` (3), `LogFull` (9), `NoFrame` (10); with
+    /// `PageDamaged` (17) on pages that are no tree: for a sibling that does not link back, among others. A
+    /// refused step changes nothing.
     pub fn step<S: PageStore>(&mut self, store: &mut S) -> Result<CleanupStep, Fault>
         ensures all { CleanupSteps S.PageStore self.old self.new store.old store.new result }
         ensures faults { IfErr result (HasCause causes_of_writing_any) }
@@ -114,7 +117,7 @@ impl CleanupOp {
         Ok(CleanupStep::Going)
     }
 
-    // Reads the metapage: where there is a level above the leaves it goes to the root.
+    // Reads the metapage: if there is a level above the leaves it goes to the root.
     fn read_metapage<S: PageStore>(
         &mut self,
         store: &mut S,

@@ -1,4 +1,4 @@
-//! Where what it reads leads a cleanup.
+//! Where a cleanup goes after a page that it has read.
 
 ghost use Rattle.std.specs.Prelude.{◌≡◌, ◌≤◌, ◌↔◌, IsTrue, false, Some, length};
 ghost use Rattle.page_codec.specs.declared.page.PageState.TheVariants.{HalfDead};
@@ -48,7 +48,7 @@ fn count_entries(page: &Page) -> u64
 }
 
 impl CleanupOp {
-    // Goes on after the page at the cursor, on which it counted so many entries, at most 50.
+    // Goes on after the page at the cursor, on which it counted `count` entries, at most 50.
     pub fn pass(&mut self, count: u64)
         requires room { cleanup_counted_out self.old ≡ false }
         requires few { count ≤ 50 }
@@ -100,7 +100,8 @@ impl CleanupOp {
         }
     }
 
-    // Goes on where the page of this block, on the way to the parent, leads it. Refused with `PageDamaged` where it leads nowhere.
+    // Goes on where the page of this block, on the way to the parent, leads it. Refused with `PageDamaged`
+    // if it leads nowhere.
     pub fn turn_from_page(
         &mut self,
         next_page: Option<NextPage>,

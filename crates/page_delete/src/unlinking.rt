@@ -26,8 +26,8 @@ fn right_of_dead(page: &Page) -> Option<u32>
     if is_half_dead(page) { page.right } else { None }
 }
 
-// Reads the page to the left of one that is unlinked, if there is one, to change it. Refused with `PageDamaged` for one that
-// does not link to it.
+// Reads the page to the left of one that is unlinked, if there is one, to change it. Refused with
+// `PageDamaged` for one that does not link to it.
 fn take_left<S: PageStore>(
     store: &mut S,
     session: Session,
@@ -196,7 +196,7 @@ fn unlink_dead<S: PageStore>(
 }
 
 impl CleanupOp {
-    // Unlinks the page at the cursor, if it is half-dead: whether it did.
+    // Unlinks the page at the cursor, if it is half-dead. Answers whether it did.
     pub fn try_unlink<S: PageStore>(&self, store: &mut S) -> Result<bool, Fault>
         ensures all { IsTried S.PageStore self.now.session (blocks_unlinked_at self.now.cursor)
             (IsInUse self.now.cursor) (PageIsDeleted self.now.cursor) (IsNotDead self.now.cursor)

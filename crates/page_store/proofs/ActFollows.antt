@@ -92,7 +92,7 @@ module _ (old : Held) (log : Log) (changed : List Page) (room promised : ℕ) (l
           ];
         }
       where
-        -- what no act after the first so many names isn't named with one more that doesn't name it
+        -- what no act after the first `n` names isn't named with one more that doesn't name it
         none_behind : (block n : ℕ) → last_image changed block ≡ None → last_image (images_of (drop n h.acts)) block ≡ None → last_image (images_of (drop n (h.acts ++ one))) block ≡ None
         none_behind block n none before = elim (cases_lt (length h.acts) n) [
           | inl past ↦ ap (λ (as' : List (List Page)). last_image (images_of as') block) (all_dropped (h.acts ++ one) n (omega (arith, length-append h.acts one)))

@@ -32,7 +32,7 @@ same_memory old new pages changes =
 pub changes_same : (old new : Pool) → new ≡ old → HasSameChanges old new
 changes_same old new is = record { order = ap changed_of is; acts = λ block. ap (λ (p : Pool). act_of p block) is }
 
--- where none was found, none is there
+-- if none was found, none is there
 pub none_of : {A : Type 0} (o : Option A) (found : Bool) → found ≡ is_some o → found ≡ false → o ≡ None
 none_of None found is none = refl
 none_of (Some x) found is none = (let both : true ≡ false = sym is ∙ none in absurd cc)
@@ -41,7 +41,7 @@ none_of (Some x) found is none = (let both : true ≡ false = sym is ∙ none in
 pub not_there : (pool : Pool) (block : ℕ) → IsPool pool → frame_of pool block ≡ None → has_block (pool_blocks pool) block ≡ true → ⊥
 not_there pool block is none among = (let both : true ≡ false = sym among ∙ (is.there block ∙ ap is_some none) in cc)
 
--- the blocks of the first so many pages and one more
+-- the blocks of the first `i` pages and one more
 pub blocks_next : (pages : List Page) (i : ℕ) (page : Page) → slice_get pages i ≡ Some page
     → map (λ (p : Page). p.block) (take (i + 1) pages) ≡ map (λ (p : Page). p.block) (take i pages) ++ page.block ∷ []
 blocks_next pages i page at = ap (λ (n : ℕ). map (λ (p : Page). p.block) (take n pages)) (add-one i) ∙ by pages i at
@@ -200,7 +200,7 @@ module _ {D : Type 0} (g : Ghosts D) where
       ∙ (ap (λ (x : ℕ). record (backing_of (held_of g a)) { room = x; promised = b.promised }) room
       ∙ ap (λ (x : ℕ). record (backing_of (held_of g a)) { promised = x }) promised)))))
 
-  -- where it is, and the pages in memory too, a page is brought in as before
+  -- if it is, and the pages in memory too, a page is brought in as before
   pub gets_from : (pinned : List ℕ) (block : ℕ) (a b c : LoggedPages D g) → most_of b.pool ≡ most_of a.pool → memory_in b.pool ≡ memory_in a.pool → backing_of (held_of g b) ≡ backing_of (held_of g a)
       → GetsFrame g pinned block b c → GetsFrame g pinned block a c
   gets_from pinned block a b c most memory backing gets =

@@ -15,7 +15,7 @@ remove_next : (front rest : List ℕ) (b : ℕ) → remove (front ++ b ∷ rest)
 remove_next [] rest b = refl
 remove_next (x ∷ front) rest b = ap (λ (l : List ℕ). x ∷ l) (remove_next front rest b)
 
--- what is left where one was removed after these, is all without it
+-- what is left if one was removed after these, is all without it
 pub put_back : (xs front rest : List ℕ) (b : ℕ) → slice_get xs (length front) ≡ Some b → remove xs (length front) ≡ front ++ rest → xs ≡ front ++ b ∷ rest
 put_back [] front rest b at left = absurd cc
 put_back (x ∷ xs) [] rest b at left = cc
@@ -44,7 +44,7 @@ has_between [] (x ∷ more) rest zero d less = first_has x x (more ++ rest) refl
 has_between [] (x ∷ more) rest (suc k) d less = later_has x (get_or more k d) (more ++ rest) (has_between [] more rest k d (omega (arith, less)))
 has_between (f ∷ front) more rest k d less = later_has f (get_or more k d) (front ++ (more ++ rest)) (has_between front more rest k d less)
 
--- So many pages were written after so many of the order, one after the other.
+-- From this place of the order on, `count` pages were written, one after the other.
 pub record AtEachMoment (pinned : List ℕ) (durable place count : ℕ) (old new : Pool) : Type 0 where
   pub front : List ℕ
   pub more : List ℕ

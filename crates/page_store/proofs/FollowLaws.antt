@@ -24,6 +24,6 @@ follows_both a b c f s = record {
   grows = λ own. let first = f.grows own in grows_on a b c f.later first (s.grows first.own);
 }
 
--- where the log is the same
+-- if the log is the same
 pub follows_log : (held : Held) (log : Log) → log ≡ held.log → Follows held (record held { log = log })
 follows_log held log same = subst (λ (l : Log). Follows held (record held { log = l })) (sym same) (follows_same held)

@@ -1,4 +1,4 @@
--- Frames while pages are brought into memory, and why none is had.
+-- Frames while pages are brought into memory, and why none can be had.
 use Rattle.std.proofs.Common.{◌≡◌, ◌≢◌, inl, inr, ℕ, zero, suc, ◌<◌, true, Some, None, Result, Ok, Err, List, [], ◌∷◌, ◌++◌, map, slice_get, get_or, refl, sym, ap, subst, ◌∙◌}
 use Rattle.buffer_pool.specs.Pools.{most_of, frame_of, HasSamePages, IsPut}
 use Rattle.page_store.proofs.Pooling.{first_has, later_has}
@@ -22,7 +22,7 @@ kept_same old new pinned same = record {
   kept = λ block among there. ap is_some (same.places block) ∙ there;
 }
 
--- where a pinned block isn't held, the pinned blocks alone are more than the frames
+-- if a pinned block isn't held, the pinned blocks alone are more than the frames
 pub too_many : (pool : Pool) (pinned : List ℕ) (block : ℕ) → AreTooMany pool pinned → frame_of pool block ≡ None → has_block pinned block ≡ true → most_of pool < count_distinct pinned
 too_many pool pinned block many none among =
     let same : count_distinct (block ∷ pinned) ≡ count_distinct pinned = rw among refl in

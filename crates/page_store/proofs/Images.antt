@@ -1,4 +1,5 @@
--- Acts change the pages as their images say: of each block in use the last image, or else the page that was there.
+-- Acts change the pages as their images say: of each block in use the last image, or else the page that was
+-- there.
 use Rattle.std.proofs.Common.{◌≡◌, ◌≢◌, ◌⊎◌, true, ℕ, zero, suc, ◌+◌, ◌<◌, ◌≤◌, Option, Some, None, List, [], ◌∷◌, ◌++◌, length, max, take, drop, slice_get, slice_set, length-set, length-append, refl, sym, ap, subst, inl, inr, ◌∙◌, arith}
 use Rattle.page_store.proofs.Imports.{is_some, lt-ltb, le-ltb, cases_lt, cases_eq, eq-eqb, ne_eqb, Format, Page, AreStored, AreActable, with_page, with_pages, stored-with_page, with_page-longer}
 use Rattle.page_store.proofs.Imports.{with_page-few, if_of, later_of, last_image, images_of, last_image-append, after_acts, AreActs}

@@ -12,7 +12,7 @@ use Rattle.page_store.proofs.Imports.{pages_now, HoldsPages, AreSeen, History, s
 use Rattle.page_store.proofs.Imports.{AreWrittenUpTo, IsClean}
 
 module _ (limits : Format) (pages : List Page) (acts : ℕ) (pool : Pool) (honest : Bool) (m n : DiskMoment) (holds : HoldsPages limits pages acts pool honest m) where
-  -- where what a read gives stays at the places of clean pages
+  -- if what a read gives stays at the places of clean pages
   holds_seen : (honest' : Bool) → (honest' ≡ true → honest ≡ true)
       → (honest ≡ true → (block : ℕ) (page : Page) → slice_get pages block ≡ Some page → act_of pool block ≡ 0
       → Has (place limits block) (page_bytes page) m.seen → Has (place limits block) (page_bytes page) n.seen)
@@ -161,7 +161,7 @@ module _ (limits : Format) (pages : List Page) (acts : ℕ) (pool : Pool) (hones
         | inr ne ↦ inl (written.others b (λ e. ne (e ∙ index)))
       ]
 
-  -- the first so many are noted as written
+  -- the first `count` are noted as written
   pub first_noted : (new : Pool) (count : ℕ) → AreWrittenUpTo limits pool count m → AreWritten pool new count
       → (b : ℕ) → (act_of new b ≡ act_of pool b) ⊎ ((act_of new b ≡ 0) × ((page : Page) → slice_get pages b ≡ Some page → Has (place limits b) (page_bytes page) m.seen))
   first_noted new count home written b = elim (bool_cases (has_block (take count (changed_of pool)) b)) [
@@ -169,7 +169,7 @@ module _ (limits : Format) (pages : List Page) (acts : ℕ) (pool : Pool) (hones
     | inr other ↦ inl (written.others b other)
   ]
 
-  -- where all are, no page is changed
+  -- if all are, no page is changed
   pub all_clean : (new : Pool) (count : ℕ) → AreWritten pool new count → count ≡ length (changed_of pool) → IsClean new
   all_clean new count written all b = elim (bool_cases (has_block (take count (changed_of pool)) b)) [
     | inl among ↦ written.written b among
@@ -182,7 +182,7 @@ module _ (limits : Format) (pages : List Page) (acts : ℕ) (pool : Pool) (hones
   long_changed : (b : ℕ) (held : Page) → has_block (changed_of pool) b ≡ true → held_page pool b ≡ Some held → length (page_bytes held) ≡ 4096
   long_changed b held among found = length-page held (holds.stored b held (holds.in_use b (changed_some pool is b among)) found).storable.admitted
 
-  -- those before the next stay written, where its place changes
+  -- those before the next stay written, if its place changes
   pub up_to_same : (n : DiskMoment) (k block : ℕ) → slice_get (changed_of pool) k ≡ Some block → AreWrittenUpTo limits pool k m
       → ChangesOnly (place limits block) 4096 m n → AreWrittenUpTo limits pool k n
   up_to_same n k block at home only b held among found =

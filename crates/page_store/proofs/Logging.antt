@@ -17,7 +17,7 @@ blocks_changed blocks (page ∷ pages) =
     ap (λ (found : Bool). with_blocks (if found then blocks else blocks ++ page.block ∷ []) pages) (among_any blocks page.block)
     ∙ blocks_changed (if list_any (λ b. b == page.block) blocks then blocks else blocks ++ page.block ∷ []) pages
 
--- where the blocks that don't wait don't fit, they are more than the room
+-- if the blocks that don't wait don't fit, they are more than the room
 pub no_room : (log : Log) (room : ℕ) (pages : List Page) → (0 < room → end_with log room ≤ (limits_of log).log_bytes)
     → 0 < new_count (waiting_blocks log) pages → (ImagesFit log (new_count (waiting_blocks log) pages) → ⊥)
     → length (waiting_blocks log) + room < length (with_changed (waiting_blocks log) pages)
@@ -29,12 +29,12 @@ no_room log room pages fits some full =
       | inr few ↦ (let h = fits (omega (arith, few, some)) in absurd (full (omega (arith, h, few))))
     ]
 
--- none waits where they are none
+-- none waits if they are none
 pub none_waits : (blocks : List ℕ) → length blocks ≡ 0 → blocks ≡ []
 none_waits [] e = refl
 none_waits (b ∷ blocks) e = absurd (omega arith)
 
--- what waits stays, where the log and what is durable do
+-- what waits stays, if the log and what is durable do
 pub waits_same : (acts : ℕ) (old mid new : Backing) → WaitsOn acts old mid → new.waiting ≡ mid.waiting → new.durable ≡ mid.durable → WaitsOn acts old new
 waits_same acts old mid new (inl was) same durable = inl (same ∙ was)
 waits_same acts old mid new (inr forced) same durable = inr (same ∙ forced.0, durable ∙ forced.1)

@@ -17,7 +17,7 @@ promise_left log new bytes room left fits cost no_more = elim (cases_lt (suc lef
   | inr below ↦ below
 ]
 
--- so many images cost no more than their room
+-- `images` images cost no more than their room
 pub room_left : (log new : Log) (images room left : ℕ) → (0 < room → end_with log room ≤ (limits_of new).log_bytes)
     → ((n : ℕ) → end_with new n ≤ end_with log (images + n)) → ((n : ℕ) → left < n → ImagesFit new n → ⊥) → room ≤ images + left
 room_left log new images room left fits cost no_more = elim (cases_lt (images + left) room) [

@@ -47,7 +47,7 @@ module _ (held : Held) (stored : AreStored (limits_of held.log) 0 held.history.s
       (subst (λ (n : ℕ). IsOwn (record held { history = from_start; acts = n })) (sym none)
       (subst (λ (n : ℕ). IsOwn (record held { history = from_start; acts = 0; durable = n })) (sym none_durable) (own_opened stands)))
 
--- where the log is empty, its room is the whole
+-- if the log is empty, its room is the whole
 pub room_is : (at waits room bytes : ℕ) → at ≡ 0 → waits ≡ 0 → ((n : ℕ) → 0 < n → n ≤ room → at + (6 + 4096 * (waits + n)) ≤ bytes)
     → ((n : ℕ) → room < n → at + (6 + 4096 * (waits + n)) ≤ bytes → ⊥) → room ≡ (bytes - 6) / 4096
 room_is at waits room bytes none idle fit no_more = elim (cases_lt room ((bytes - 6) / 4096)) [

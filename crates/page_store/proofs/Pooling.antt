@@ -20,7 +20,7 @@ has_at [] k b e = absurd cc
 has_at (x ∷ xs) zero b e = let is : x ≡ b = cc in first_has x b xs is
 has_at (x ∷ xs) (suc k) b e = later_has x b xs (has_at xs k b e)
 
--- the first so many and one more: one of them, or that one
+-- a block among the first `k` and one more: one of those, or that one
 pub has_next : (xs : List ℕ) (k b : ℕ) → has_block (take (suc k) xs) b ≡ true
     → (has_block (take k xs) b ≡ true) ⊎ (slice_get xs k ≡ Some b)
 has_next [] k b h = absurd cc
@@ -39,7 +39,7 @@ has_next (x ∷ xs) (suc k) b h = elim (cases_eq x b) [
     rest : x ≢ b → has_block (x ∷ take (suc k) xs) b ≡ has_block (take (suc k) xs) b
     rest ne = rw (ne_eqb x b ne) refl
 
--- one of the first so many stands at a place before
+-- a block among the first `k` stands at a place before
 before : (xs : List ℕ) (k b : ℕ) → has_block (take k xs) b ≡ true → (j : ℕ) × (j < k) × (slice_get xs j ≡ Some b)
 before xs zero b h = absurd cc
 before xs (suc k) b h = elim (has_next xs k b h) [
@@ -47,13 +47,13 @@ before xs (suc k) b h = elim (has_next xs k b h) [
   | inr last ↦ (k, omega arith, last)
 ]
 
--- where no block stands twice, the next isn't one of those before
+-- if no block stands twice, the next isn't one of those before
 pub next_apart : (xs : List ℕ) (k b : ℕ) → BlocksAreApart xs → slice_get xs k ≡ Some b → has_block (take k xs) b ≡ true → ⊥
 next_apart xs k b apart at h =
     let there = before xs k b h in
     apart there.0 k b there.1 (slice_get_within xs k b at) (get_or_from_slice_get xs there.0 b b there.2 ∙ sym (get_or_from_slice_get xs k b b at))
 
--- of the first so many, one of all
+-- a block among the first `k` is among all
 pub has_all : (xs : List ℕ) (k b : ℕ) → has_block (take k xs) b ≡ true → has_block xs b ≡ true
 has_all [] zero b h = h
 has_all [] (suc k) b h = h

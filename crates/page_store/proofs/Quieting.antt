@@ -45,7 +45,7 @@ quiet_both g a b c f s = record {
   waits = waits_both g a b c f.pages.acts s.pages.acts s.follows.later.durable f.waits s.waits;
 }
 
--- where the store is as it was except for the pool, of which some changed pages are noted as written
+-- if the store is as it was except for the pool, of which some changed pages are noted as written
 pub quiet_noted : {D : Type 0} (g : Ghosts D) (a b : LoggedPages D g) → b.limits ≡ a.limits → b.history ≡ a.history → b.used ≡ a.used
     → b.acts ≡ a.acts → b.promised ≡ a.promised → b.room ≡ a.room → b.log ≡ a.log → IsPartOf (changed_of b.pool) (changed_of a.pool)
     → Follows (held_of g a) (held_of g b) → IsSameButWritten g a b
@@ -58,7 +58,7 @@ quiet_noted g a b limits history used acts promised room log order follows = rec
   waits = inl (ap waiting_blocks log);
 }
 
--- where the device alone is another
+-- if the device alone is another
 pub quiet_device : {D : Type 0} (g : Ghosts D) (a b : LoggedPages D g) → Follows (held_of g a) (held_of g b) → SameButDevice g a b → IsSameButWritten g a b
 quiet_device g a b follows same =
     record {

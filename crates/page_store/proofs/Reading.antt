@@ -1,4 +1,4 @@
--- What a read page is, where the device kept its model.
+-- What a read page is, if the device kept its model.
 use Rattle.std.proofs.Common.{◌≡◌, inl, inr, ℕ, ◌<◌, ◌≤◌, Bool, true, Some, List, length, slice_get, Result, Ok, Err, sym, ap, ◌∙◌, arith}
 use Rattle.buffer_pool.specs.Pools.{act_of, held_page}
 use Rattle.page_codec.specs.Spelling.{page_bytes}

@@ -67,7 +67,7 @@ module _ (limits : Format) (h : History) (start_stored : AreStored limits 0 h.st
   pub pages_stored : (part : ℕ) → AreStored limits 0 (pages_after h part) × (length (pages_after h part) ≤ limits.pages)
   pages_stored part = stored-after_acts limits h.start (take part h.acts) (acts-take limits h.start h.acts part acts) start_stored start_few
 
-  -- what the log holds of a prefix of the acts after the first so many
+  -- what the log holds of a prefix of the acts after the first `base`
   pub part_restarts : (base forced : ℕ) (m : DiskMoment) (image : List ℕ) → MayCrashTo m image → base ≤ length h.acts → OnDisk 0 (superblock limits) m
       → AreHome limits (images_of (take forced (drop base h.acts))) (pages_after h base) m → place limits limits.pages ≤ length m.seen
       → HoldsFirst limits (drop base h.acts) forced image → RestartsToPart limits h (base + forced) image

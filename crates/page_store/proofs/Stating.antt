@@ -1,4 +1,4 @@
--- What a store shows, where its parts are alike.
+-- What a store shows, if its parts are alike.
 use Rattle.std.proofs.Common.{◌≡◌, ◌∙◌, ℕ, List, ap}
 use Rattle.page_store.proofs.Imports.{Format, Page, TableOfCalls, state_with}
 

@@ -1,4 +1,5 @@
--- Pages of which one was written to its place, or some were noted as written, or whose device was synced, follow those before.
+-- Pages of which one was written to its place, or some were noted as written, or whose device was synced,
+-- follow those before.
 use Rattle.std.proofs.Common.{◌≡◌, ◌≢◌, ◌⊎◌, ℕ, ◌+◌, ◌<◌, ◌≤◌, Bool, true, false, Some, None, List, [], length, take, drop, replicate, slice_get, refl, sym, ap, subst, inl, inr, ◌∙◌, arith}
 use Rattle.page_codec.specs.Spelling.{page_bytes}
 use Rattle.page_store.proofs.Imports.{append-nil, length-replicate, is_some, DiskMoment, Trace, synced, AtEachMoment, Has, ChangesOnly, goes_weaker, goes_now, has_kept, kept, synced_only, Format}

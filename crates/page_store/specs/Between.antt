@@ -30,7 +30,8 @@ newest : (P : DiskMoment → Type 0) (first second : Trace) (early : List DiskMo
 newest P first second [] is p = let e : second.now ≡ first.now = cc in inl (subst P e p)
 newest P first second (m ∷ ms) is p = let e : second.now ≡ m = cc in inl (subst P e p)
 
--- a device came from the first to the second by the early moments, and from there to the third by the late ones
+-- a device came from the first to the second by the early moments, and from there to the third by the late
+-- ones
 module _ (first second third : Trace) (image : List ℕ) (early late : List DiskMoment)
     (to_second : second.now ∷ second.past ≡ early ++ first.now ∷ first.past)
     (to_third : third.now ∷ third.past ≡ late ++ second.now ∷ second.past) where

@@ -7,7 +7,7 @@ use Rattle.page_action.specs.Order.{with_changed}
 use Rattle.page_codec.specs.declared.page.Page.{Page}
 use Rattle.redo_log.specs.Images.{last_image}
 
--- the pages were changed by this act, where they were held; the others are as they were
+-- the pages were changed by this act, if they were held; the others are as they were
 pub record AreActed (old new : Pool) (pages : List Page) (act : ℕ) : Type 0 where
   pub most : most_of new ≡ most_of old
   pub reach : reach_of new ≡ reach_of old

@@ -10,7 +10,8 @@ use Rattle.redo_log.specs.Kept.{limits_of}
 use Rattle.page_store.specs.Restart.{CrashesToPart}
 use Rattle.page_store.specs.Logged.{Held, backing_of, IsOwn}
 
--- with some acts more, and at each moment in between a crash left a prefix of all acts, with all that were durable
+-- the second has some acts more, and at each moment in between a crash left a prefix of all acts, with all
+-- that were durable
 pub record GrowsTo (old new : Held) : Type 0 where
   pub own : IsOwn new
   pub limits : limits_of new.log ≡ limits_of old.log
@@ -19,7 +20,7 @@ pub record GrowsTo (old new : Held) : Type 0 where
   pub acts : new.history.acts ≡ old.history.acts ++ more
   pub moments : AtEachMoment (CrashesToPart (limits_of old.log) new.history old.durable) old.trace new.trace
 
--- no count goes back; and if the first are an own device's, so are the second
+-- no count goes back; and if the first pages are an own device's, so are the second
 pub record Follows (old new : Held) : Type 0 where
   pub later : IsLater (backing_of old) (backing_of new)
   pub grows : IsOwn old → GrowsTo old new

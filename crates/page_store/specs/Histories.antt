@@ -1,4 +1,4 @@
--- The acts of a store, and its pages after the first so many of them.
+-- The acts of a store, and its pages after a number of them.
 use Rattle.std.specs.Prelude.{ℕ, List, [], ◌∷◌, ◌++◌, length, take}
 use Rattle.index_model.specs.declared.format.Format.{Format}
 use Rattle.page_codec.specs.declared.page.Page.{Page}
@@ -19,7 +19,7 @@ abbrev pub after_acts : List Page → List (List Page) → List Page
 after_acts pages [] = pages
 after_acts pages (changed ∷ acts) = after_acts (with_pages pages changed) acts
 
--- the pages after the first so many acts of a history
+-- the pages after the first `part` acts of a history
 abbrev pub pages_after : History → ℕ → List Page
 pages_after h part = after_acts h.start (take part h.acts)
 
@@ -27,7 +27,7 @@ pages_after h part = after_acts h.start (take part h.acts)
 abbrev pub pages_now : History → List Page
 pages_now h = after_acts h.start h.acts
 
--- each of these acts could be done where it was
+-- each of these acts could be done on the pages that those before it leave
 abbrev pub AreActs : Format → List Page → List (List Page) → Type 0
 AreActs limits pages [] = Unit {0}
 AreActs limits pages (changed ∷ acts) =

@@ -94,7 +94,7 @@ backing_of held = record {
 abbrev pub memory_in : Pool → Memory
 memory_in pool = record { held = pool_blocks pool; unwritten = act_of pool }
 
--- each block that has no image among these stands at its place: its page, or zeros where it has none
+-- each block that has no image among these stands at its place: its page, or zeros if it has none
 pub record AreHome (limits : Format) (images pages : List Page) (m : DiskMoment) : Type 0 where
   pub used : (block : ℕ) (page : Page) → slice_get pages block ≡ Some page
       → last_image images block ≡ None
@@ -107,8 +107,8 @@ pub record AreHome (limits : Format) (images pages : List Page) (m : DiskMoment)
 abbrev pub is_named : List (List Page) → ℕ → Bool
 is_named acts block = is_some (last_image (images_of acts) block)
 
--- the log keeps the acts after the first so many, whose pages stand at home except for those that the log has an image of;
--- of these each is unwritten since its last act, or a read gives it at its place
+-- the log keeps the acts after the first `base`, whose pages stand at home except for those that the log has
+-- an image of; of these each is unwritten since its last act, or a read gives it at its place
 pub record IsKept (log : Log) (m : DiskMoment) (unwritten : ℕ → ℕ) (h : History) (durable : ℕ)
     : Type 0 where
   pub base : ℕ
@@ -126,8 +126,8 @@ pub record IsKept (log : Log) (m : DiskMoment) (unwritten : ℕ → ℕ) (h : Hi
       → unwritten block ≡ 0 → is_named (drop base h.acts) block ≡ true
       → Has (place (limits_of log) block) (page_bytes page) m.seen
 
--- the pages are those after all acts of the history, a crash leaves a prefix of them with all durable ones, and
--- while the log has not failed it keeps them
+-- the pages are those after all acts of the history; a crash leaves a prefix of the acts, with all durable
+-- ones; while the log has not failed it keeps them
 pub record IsOwn (held : Held) : Type 0 where
   pub start_stored : AreStored (limits_of held.log) 0 held.history.start
   pub start_few : length held.history.start ≤ (limits_of held.log).pages
@@ -138,8 +138,8 @@ pub record IsOwn (held : Held) : Type 0 where
   pub kept : is_stopped held.log ≡ false
       → IsKept held.log held.trace.now held.unwritten held.history held.durable
 
--- a device as it stands after its opening: the log holds nothing, each page in use stands at its place, zeros at those
--- of the other blocks, and no crash changes this
+-- a device as it stands after its opening: the log holds nothing, each page in use stands at its place, zeros
+-- at those of the other blocks, and no crash changes this
 pub record StandsOpened (log : Log) (m : DiskMoment) (pages : List Page) : Type 0 where
   pub log_keeps : LogHolds log m [] 0
   pub home : AreHome (limits_of log) [] pages m

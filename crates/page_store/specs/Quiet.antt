@@ -9,8 +9,8 @@ use Rattle.page_store.specs.Following.{Follows}
 use Rattle.page_store.specs.Logged.{held_of, backing_of, SamePages}
 use Rattle.page_store.specs.declared.logged_pages.LoggedPages.{LoggedPages}
 
--- the pages and what is promised are as they were; and the room, where no act waits for a force; of the changed pages some
--- were written; what waits in the log is as it was, or it was forced
+-- the pages and what is promised are as they were; so is the room, if no act waits for a force; some of the
+-- changed pages were written; what waits in the log is as it was, or the log was forced
 pub record IsSameButWritten {D : Type 0} (g : Ghosts D) (old new : LoggedPages D g) : Type 0 where
   pub follows : Follows (held_of g old) (held_of g new)
   pub pages : SamePages g old new
@@ -25,7 +25,8 @@ pub record IsUnforced {D : Type 0} (g : Ghosts D) (old new : LoggedPages D g) : 
   pub durable : new.durable ≡ old.durable
   pub room : new.room ≡ old.room
 
--- no act is durable that wasn't; the room, what is promised of it, the changed pages and what waits in the log are as they were
+-- no act is durable that wasn't; the room, what is promised of it, the changed pages and what waits in the
+-- log are as they were
 pub record IsAdvanced (old new : Backing) : Type 0 where
   pub durable : new.durable ≡ old.durable
   pub room : new.room ≡ old.room

@@ -18,8 +18,8 @@ pub record StandsAtHome (limits : Format) (images : List Page) (block : ℕ) (by
   pub unnamed : last_image images block ≡ None
   pub has : Has (place limits block) bytes image
 
--- the bytes restart to these pages: of each block in use the last image in the log is the page, or there is none, and
--- the page stands at its place; no later block has an image, and zeros stand at its place
+-- the bytes restart to these pages: of each block in use the last image in the log is the page, or there is
+-- none, and the page stands at its place; no later block has an image, and zeros stand at its place
 pub record RestartsTo (limits : Format) (image : List ℕ) (pages : List Page) : Type 0 where
   pub superblock_is : Has 0 (superblock limits) image
   pub groups : List (List Page)
@@ -33,7 +33,7 @@ pub record RestartsTo (limits : Format) (image : List ℕ) (pages : List Page) :
   pub unused : (block : ℕ) → length pages ≤ block → block < limits.pages
       → StandsAtHome limits (images_of groups) block (replicate 4096 0) image
 
--- they restart to the pages after some prefix of the acts, of at least so many
+-- they restart to the pages after some prefix of the acts, of at least `least` acts
 pub record RestartsToPart (limits : Format) (h : History) (least : ℕ) (image : List ℕ)
     : Type 0 where
   pub part : ℕ

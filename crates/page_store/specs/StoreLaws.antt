@@ -18,7 +18,7 @@ module _ {D : Type 0} (g : Ghosts D) where
   abbrev pub follows_by : Store D g → Store D g → Type 0
   follows_by s t = Follows (held_by g s) (held_by g t)
 
-  -- its pages after the first so many acts
+  -- its pages after the first `part` acts
   abbrev pub past_of : Store D g → ℕ → List Page
   past_of s part = pages_after (store_history g s) part
 

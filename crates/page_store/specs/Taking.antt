@@ -1,4 +1,4 @@
--- What is held while frames are taken for other pages, and why none is had.
+-- What is held while frames are taken for other pages, and why none can be had.
 use Rattle.std.specs.Prelude.{◌≡◌, ◌⊎◌, ℕ, ◌<◌, ◌≤◌, ◌/◌, Bool, true, false, Some, None, IsSome, List, ◌∷◌, ◌++◌, length, slice_get, All}
 use Rattle.index_model.specs.declared.fault.Fault.{Fault}
 use Rattle.index_model.specs.declared.fault.Fault.TheVariants.{Io, Stopped, NoFrame, PageDamaged}
@@ -17,7 +17,8 @@ pub record SameFrames (pinned : List ℕ) (old new : Pool) : Type 0 where
   pub kept : (block : ℕ) → has_block pinned block ≡ true → IsSome (frame_of old block)
       → IsSome (frame_of new block)
 
--- The changed page at this place of the order was written, which isn't pinned, and whose acts were durable already.
+-- The changed page at this place of the order was written, which isn't pinned, and whose acts were durable
+-- already.
 pub record IsWrittenNext (pinned : List ℕ) (durable place : ℕ) (old new : Pool) : Type 0 where
   pub block : ℕ
   pub at : slice_get (changed_of old) place ≡ Some block
@@ -26,8 +27,8 @@ pub record IsWrittenNext (pinned : List ℕ) (durable place : ℕ) (old new : Po
   pub written : IsWritten old new place
   pub others : (b : ℕ) → has_block (changed_of new) b ≡ true → act_of new b ≡ act_of old b
 
--- Of the changed pages some right after so many were written, of which none is pinned, and whose acts were durable already: at most
--- a quarter of what there are frames.
+-- Some changed pages from this place of their order on were written, of which none is pinned, and whose acts
+-- were durable already: at most a quarter of what there are frames.
 pub record AreWrittenAhead (pinned : List ℕ) (durable place : ℕ) (old new : Pool) : Type 0 where
   pub front : List ℕ
   pub more : List ℕ
@@ -40,7 +41,7 @@ pub record AreWrittenAhead (pinned : List ℕ) (durable place : ℕ) (old new : 
   pub others : (b : ℕ) → has_block (changed_of new) b ≡ true → act_of new b ≡ act_of old b
 
 module _ {D : Type 0} (g : Ghosts D) where
-  -- what a frame costs, where the pages of these blocks are pinned
+  -- what a frame costs, while the pages of these blocks are pinned
   abbrev pub CostsFrame : List ℕ → LoggedPages D g → LoggedPages D g → Type 0
   CostsFrame pinned old new =
       FrameCosts (most_of old.pool) pinned (memory_in old.pool) (memory_in new.pool)
@@ -68,12 +69,12 @@ abbrev pub WritingFails : Bool → ℕ → ℕ → Fault → Type 0
 WritingFails stopped old new fault =
     ((fault ≡ Io) × (old < new)) ⊎ ((fault ≡ Stopped) × (stopped ≡ true))
 
--- no frame is had for another page: all are pinned, or a changed page could not be written before
+-- no frame can be had for another page: all are pinned, or a changed page could not be written before
 abbrev pub FrameFails : Pool → List ℕ → Bool → ℕ → ℕ → Fault → Type 0
 FrameFails pool pinned stopped old new fault =
     ((fault ≡ NoFrame) × AreTooMany pool pinned) ⊎ WritingFails stopped old new fault
 
--- no frame is had beside so many blocks, or a device call failed, or the log had failed before
+-- there are fewer frames than these blocks, or a device call failed, or the log had failed before
 abbrev pub TakingFails : Pool → List ℕ → Bool → ℕ → ℕ → Fault → Type 0
 TakingFails pool blocks stopped old new fault =
     ((fault ≡ NoFrame) × (most_of pool < count_distinct blocks)) ⊎ WritingFails stopped old new fault

@@ -18,8 +18,8 @@ abbrev pub AreSeen : Format → List Page → DiskMoment → Type 0
 AreSeen limits pages m = (block : ℕ) (page : Page) → slice_get pages block ≡ Some page
     → Has (place limits block) (page_bytes page) m.seen
 
--- What the pool holds of these pages, after so many acts: changed pages as the acts have left them; and where the device
--- kept its model, each as it is, and the others at their places.
+-- What the pool holds of these pages, after `acts` acts: changed pages as the acts have left them; and if the
+-- device kept its model, each as it is, and the others at their places.
 pub record HoldsPages (limits : Format) (pages : List Page) (acts : ℕ) (pool : Pool) (honest : Bool)
     (m : DiskMoment) : Type 0 where
   pub few : (block : ℕ) → act_of pool block ≤ acts
@@ -34,7 +34,7 @@ pub record HoldsPages (limits : Format) (pages : List Page) (acts : ℕ) (pool :
   pub seen : honest ≡ true → (block : ℕ) (page : Page) → slice_get pages block ≡ Some page
       → act_of pool block ≡ 0 → Has (place limits block) (page_bytes page) m.seen
 
--- the first so many of the changed pages stand at their places, as a read gives them
+-- the first `count` of the changed pages stand at their places, as a read gives them
 abbrev pub AreWrittenUpTo : Format → Pool → ℕ → DiskMoment → Type 0
 AreWrittenUpTo limits pool count m = (block : ℕ) (page : Page)
     → has_block (take count (changed_of pool)) block ≡ true → held_page pool block ≡ Some page

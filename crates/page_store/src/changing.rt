@@ -18,7 +18,7 @@ pub(crate) fn change_all(pool: &mut Pool, pages: &[Page], act: u64)
     }
 }
 
-/// The next unused block after these pages and so many blocks in use.
+/// The next unused block after these pages, if `used` blocks were in use.
 pub(crate) fn used_after(used: u32, pages: &[Page]) -> u32
     requires few { All (λ page. page.block < 65536) pages.now }
     ensures { result ≡ used_after used pages.now }

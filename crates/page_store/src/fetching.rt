@@ -1,4 +1,4 @@
-//! Pages are brought into memory, in the place of others where there is no room.
+//! Pages are brought into memory, in the place of others if there is no room.
 
 ghost use Rattle.std.specs.Prelude.{◌≡◌, ◌≢◌, ◌<◌, ◌≤◌, Some, None, Err, OnErr, IfOk, IfErr, OnOk, IsSome, is_some, ℕ, true, false, length, remove, slice_get, map, All};
 ghost use Rattle.buffer_pool.specs.Choices.{IsChoice};
@@ -21,7 +21,8 @@ use index_model::Fault;
 use page_codec::Page;
 
 impl<D: Device> LoggedPages<D> {
-    // Which frame is taken for another page, or which page is written first, where the pages of these blocks are pinned.
+    // Which frame is taken for another page, or which page is written first, while the pages of these blocks
+    // are pinned.
     fn choose(&mut self, pinned: &[u32]) -> Choice
         ensures quiet { IsSameButWritten D.Device self.old self.new }
         ensures choice { IsChoice self.new.pool pinned.now result }
@@ -79,8 +80,8 @@ impl<D: Device> LoggedPages<D> {
         }
     }
 
-    // Writes the changed page at this place of their order, if one is there that isn't pinned and whose acts are durable:
-    // whether it did. Refused with `Io`; the page is changed then as before.
+    // Writes the changed page at this place of their order, if one is there that isn't pinned and whose acts
+    // are durable. Answers whether it did. Refused with `Io`; the page is changed then as before.
     fn write_next(&mut self, place: usize, pinned: &[u32]) -> Result<bool, Fault>
         requires alive { is_stopped self.old.log ≡ false }
         ensures quiet { IsSameButWritten D.Device self.old self.new }
@@ -107,8 +108,9 @@ impl<D: Device> LoggedPages<D> {
         Ok(true)
     }
 
-    // Writes the changed pages after so many of their order, until one is pinned or has acts that aren't durable, at most a
-    // quarter of what there are frames: so that clean ones are there for the pages that are read next. Refused with `Io`.
+    // Writes the changed pages from this place of their order on, until one is pinned or has acts that aren't
+    // durable, at most a quarter of what there are frames. So clean ones are there for the pages that are
+    // read next. Refused with `Io`.
     fn write_ahead(&mut self, place: usize, pinned: &[u32]) -> Result<(), Fault>
         requires alive { is_stopped self.old.log ≡ false }
         requires place { place ≤ length (changed_of self.old.pool) }
@@ -134,8 +136,8 @@ impl<D: Device> LoggedPages<D> {
         Ok(())
     }
 
-    // A frame for another page, where the pages of these blocks are pinned: where no clean one is there, the oldest changed
-    // page is written before, and some after it. Refused with `NoFrame`, `Io` and `Stopped`.
+    // A frame for another page, while the pages of these blocks are pinned: if no clean one is there, the
+    // oldest changed page is written before, and some after it. Refused with `NoFrame`, `Io` and `Stopped`.
     fn free_frame(&mut self, pinned: &[u32]) -> Result<usize, Fault>
         ensures quiet { IsSameButWritten D.Device self.old self.new }
         ensures cost { CostsFrame D.Device pinned.now self.old self.new }
@@ -164,8 +166,8 @@ impl<D: Device> LoggedPages<D> {
         }
     }
 
-    // Puts the page that was decoded into a frame that can be taken. It is one that a device that keeps its model gave, or
-    // of a block that is not in use.
+    // Puts the page that was decoded into a frame that can be taken. It is one that a device that keeps its
+    // model gave, or of a block that is not in use.
     fn put(&mut self, at: usize)
         requires free { CanBeTaken self.old.pool at }
         requires stored { IsStored self.old.limits self.old.decoded.value.block self.old.decoded.value }
@@ -185,8 +187,8 @@ impl<D: Device> LoggedPages<D> {
         self.pool.put(at, &self.decoded);
     }
 
-    // Decodes the page of a block in use that is not in memory. Refused with `Io`, and with `PageDamaged` where the device
-    // breaks its model.
+    // Decodes the page of a block in use that is not in memory. Refused with `Io`, and with `PageDamaged`
+    // if the device breaks its model.
     fn read(&mut self, block: u32) -> Result<(), Fault>
         requires used { block < self.old.used }
         requires absent { frame_of self.old.pool block ≡ None }
@@ -207,8 +209,8 @@ impl<D: Device> LoggedPages<D> {
         read_page(&mut self.device, self.limits, block, &mut self.decoded)
     }
 
-    /// Brings the page of a block in use into memory, where the pages of these blocks are pinned. Refused with `NoFrame`,
-    /// `Io` and `Stopped`, and with `PageDamaged` where the device breaks its model.
+    /// Brings the page of a block in use into memory, while the pages of these blocks are pinned. Refused
+    /// with `NoFrame`, `Io` and `Stopped`, and with `PageDamaged` if the device breaks its model.
     pub fn fetch(&mut self, block: u32, pinned: &[u32]) -> Result<(), Fault>
         requires used { block < self.old.used }
         ensures quiet { IsSameButWritten D.Device self.old self.new }
@@ -248,8 +250,8 @@ impl<D: Device> LoggedPages<D> {
         page.copy_to(&mut self.decoded);
     }
 
-    // Decodes the page of a block that an act is to change, where the block is in use and the device gives it; else copies the
-    // page itself. Nobody looks at it before the act is done. Refused with `Io`.
+    // Decodes the page of a block that an act is to change, if the block is in use and the device gives
+    // it; else copies the page itself. Nobody looks at it before the act is done. Refused with `Io`.
     fn read_or_copy(&mut self, page: &Page) -> Result<(), Fault>
         requires stored { IsStored self.old.limits page.now.block page.now }
         requires absent { frame_of self.old.pool page.now.block ≡ None }
@@ -303,8 +305,8 @@ impl<D: Device> LoggedPages<D> {
         Ok(())
     }
 
-    /// Takes a frame for each of these pages, where the pages of these blocks are pinned, their own among them. Refused with
-    /// `NoFrame`, `Io` and `Stopped`.
+    /// Takes a frame for each of these pages, while the pages of these blocks are pinned, their own among
+    /// them. Refused with `NoFrame`, `Io` and `Stopped`.
     pub fn take_frames(&mut self, pages: &[Page], pinned: &[u32]) -> Result<(), Fault>
         requires actable { AreActable self.old.limits (length (pages_now self.old.history)) pages.now }
         requires pinned { All (λ page. has_block pinned.now page.block ≡ true) pages.now }

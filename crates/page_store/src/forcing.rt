@@ -53,7 +53,8 @@ impl<D: Device> LoggedPages<D> {
         Ok(self.acts)
     }
 
-    /// Does the next part of a force but for its last sync, as the log does. Refused with `Io` and `Stopped`.
+    /// Does the next part of a force, except for its last sync, as the log does. Refused with `Io` and
+    /// `Stopped`.
     pub fn advance(&mut self) -> Result<Advance, Fault>
         ensures steps { Follows (held_of D.Device self.old) (held_of D.Device self.new) }
         ensures pages { SamePages D.Device self.old self.new }
@@ -122,8 +123,8 @@ impl<D: Device> LoggedPages<D> {
         }
     }
 
-    /// Writes the changed page at this place of their order to its place, and makes its acts durable before. Refused with
-    /// `Io` and `Stopped`; the page is changed then as before, at its place of the order.
+    /// Writes the changed page at this place of their order to its place, and makes its acts durable before.
+    /// Refused with `Io` and `Stopped`; the page is changed then as before, at its place of the order.
     pub(crate) fn write_changed(&mut self, place: usize, block: u32, act: u64) -> Result<(), Fault>
         requires at { slice_get (changed_of self.old.pool) place ≡ Some block }
         requires act { act ≡ act_of self.old.pool block }
@@ -159,8 +160,9 @@ impl<D: Device> LoggedPages<D> {
         self.pool.note_written(place);
     }
 
-    /// Writes the page whose first change since it was last written is the earliest to its place, and makes its acts durable
-    /// before. None: no page is changed. Refused with `Io` and `Stopped`; the page is changed then as before.
+    /// Writes the page whose first change since it was last written is the earliest to its place, and makes
+    /// its acts durable before. None: no page is changed. Refused with `Io` and `Stopped`; the page is
+    /// changed then as before.
     pub fn flush(&mut self) -> Result<Option<u32>, Fault>
         ensures quiet { IsSameButWritten D.Device self.old self.new }
         ensures block { IfOk result (λ b. b ≡ slice_get (changed_of self.old.pool) 0) }
@@ -181,7 +183,8 @@ impl<D: Device> LoggedPages<D> {
         Ok(Some(block))
     }
 
-    // Writes the changed pages to their places, in order, until one can't be written, and counts those that were.
+    // Writes the changed pages to their places, in order, until one can't be written, and counts those that
+    // were.
     fn write_pages(&mut self, written: &mut usize) -> Result<(), Fault>
         requires alive { is_stopped self.old.log ≡ false }
         requires durable { self.old.durable ≡ self.old.acts }
@@ -207,7 +210,7 @@ impl<D: Device> LoggedPages<D> {
         Ok(())
     }
 
-    // Notes that the first so many changed pages stand at their places.
+    // Notes that the first `count` changed pages stand at their places.
     fn note_first_written(&mut self, count: usize)
         requires few { count ≤ length (changed_of self.old.pool) }
         requires home { AreWrittenUpTo self.old.limits self.old.pool count
@@ -238,8 +241,8 @@ impl<D: Device> LoggedPages<D> {
         self.device.sync()
     }
 
-    // Writes all changed pages to their places, in order, and syncs them. Those that were written are clean, also where a
-    // later one can't be. Refused with `Io`.
+    // Writes all changed pages to their places, in order, and syncs them. Those that were written are clean,
+    // also if a later one can't be. Refused with `Io`.
     fn write_all(&mut self) -> Result<(), Fault>
         requires alive { is_stopped self.old.log ≡ false }
         requires durable { self.old.durable ≡ self.old.acts }
@@ -287,8 +290,8 @@ impl<D: Device> LoggedPages<D> {
         Ok(())
     }
 
-    /// Makes all acts durable, writes each changed page to its place and closes the log. Refused with `Io` and `Stopped`;
-    /// where a page could not be written or synced, the log stays as it was.
+    /// Makes all acts durable, writes each changed page to its place and closes the log. Refused with `Io`
+    /// and `Stopped`; if a page could not be written or synced, the log stays as it was.
     pub fn checkpoint(&mut self) -> Result<u64, Fault>
         ensures steps { Follows (held_of D.Device self.old) (held_of D.Device self.new) }
         ensures pages { SamePages D.Device self.old self.new }

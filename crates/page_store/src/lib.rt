@@ -1,5 +1,5 @@
-//! Pages that whole acts change, over a device: a log makes the acts durable, and a crash leaves the pages after some
-//! prefix of them. Of the pages in use a bounded number is held in memory.
+//! Pages that whole acts change, over a device: a log makes the acts durable, and a crash leaves the pages
+//! after some prefix of them. Of the pages in use a bounded number is held in memory.
 #![tactic(auto)]
 
 mod changing;

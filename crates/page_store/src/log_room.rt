@@ -43,8 +43,8 @@ impl StoreRoom {
     ghost use Rattle.page_action.specs.Stored.{IsStored};
     ghost use Rattle.page_store.specs.Rooms.{limits_of_room, frames_of_room, pages_of_room, counts_of_room};
 
-    /// The room for an index of these limits, of which so many pages are held at once, with no page in use. Refused with
-    /// `BadLimits`, and with `NoMemory` where the room cannot be had.
+    /// The room for an index of these limits, of which `frames` pages are held at once, with no page in use.
+    /// Refused with `BadLimits`, and with `NoMemory` if the room cannot be had.
     pub fn new(alloc: Global, limits: Format, frames: u32) -> Result<StoreRoom, Fault>
         ensures limits { IfOk result (λ room. limits_of_room room ≡ limits) }
         ensures frames { IfOk result (λ room. frames_of_room room ≡ frames) }
@@ -74,9 +74,9 @@ impl StoreRoom {
         })
     }
 
-    /// Brings the next unused block into use, with this page. Refused, with nothing changed: with `IndexFull` where no
-    /// block is unused; with `PageDamaged` for that block where the page is not one of the format, is not that block's,
-    /// or has more items than the limits allow.
+    /// Brings the next unused block into use, with this page. Refused, with nothing changed: with `IndexFull`
+    /// if no block is unused; with `PageDamaged` for that block if the page is not one of the format,
+    /// is not that block's, or has more items than the limits allow.
     pub fn add(&mut self, page: &Page) -> Result<(), Fault>
         ensures limits { limits_of_room self.new ≡ limits_of_room self.old }
         ensures frames { frames_of_room self.new ≡ frames_of_room self.old }

@@ -20,8 +20,8 @@ use index_model::{Fault, Format};
 use page_codec::Page;
 use redo_log::Log;
 
-/// The pages in use, of which the pool holds some in memory; the log that makes their acts durable, and the device below.
-/// The room for all was made with it.
+/// The pages in use, of which the pool holds some in memory; the log that makes their acts durable, and the
+/// device below. The room for all was made with it.
 #[derive(Drop)]
 pub(crate) struct LoggedPages<D: Device> {
     pub(crate) limits: Format,
@@ -73,8 +73,8 @@ impl<D: Device> LoggedPages<D> {
     ghost use Rattle.page_store.specs.Logged.{held_of, backing_of, IsOwn, SamePages, SameRoom, StandsOpened};
     ghost use Rattle.page_store.specs.Writing.{AreSeen};
 
-    /// The pages that `history` began with, over a device and a log that was just opened and closed. The pool holds none
-    /// of them yet.
+    /// The pages that `history` began with, over a device and a log that was just opened and closed. The pool
+    /// holds none of them yet.
     pub fn new(
         limits: Format,
         device: D,
@@ -162,8 +162,8 @@ impl<D: Device> LoggedPages<D> {
         }
     }
 
-    /// Changes these pages, each of which is in memory or has a frame there, at once, or none, and answers the number of the
-    /// act. Refused with `Stopped` and `LogFull`.
+    /// Changes these pages, each of which is in memory or has a frame there, at once, or none, and answers
+    /// the number of the act. Refused with `Stopped` and `LogFull`.
     pub fn act(&mut self, pages: &[Page]) -> Result<u64, Fault>
         requires some { 1 ≤ length pages.now }
         requires actable { AreActable self.old.limits (length (pages_now self.old.history)) pages.now }

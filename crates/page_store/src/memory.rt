@@ -12,8 +12,8 @@ use index_model::Fault;
 use std::alloc::Global;
 
 impl Store<MemDevice> {
-    /// The nth device call from now, of reads, writes and syncs, fails once; 0: none does. A write that fails so is kept.
-    /// An earlier such plan is dropped; one of `stop_at` stands beside it.
+    /// The nth device call from now, of reads, writes and syncs, fails once; 0: none does. A write that fails
+    /// so is kept. An earlier such plan is dropped; one of `stop_at` stands beside it.
     pub fn fail_at(&mut self, n: u64)
         ensures plan { plan_of (device_of ⟦<MemDevice as Device>⟧ self.new)
             ≡ failing_at n (plan_of (device_of ⟦<MemDevice as Device>⟧ self.old)) }
@@ -25,9 +25,9 @@ impl Store<MemDevice> {
         self.held.device.fail_at(n);
     }
 
-    /// The nth device call from now, of reads, writes and syncs, fails, and so does each later one; 0: none does. If the
-    /// nth is a write it is kept; the later calls do nothing. An earlier such plan is dropped; one of `fail_at` stands
-    /// beside it.
+    /// The nth device call from now, of reads, writes and syncs, fails, and so does each later one; 0: none
+    /// does. If the nth is a write it is kept; the later calls do nothing. An earlier such plan is dropped;
+    /// one of `fail_at` stands beside it.
     pub fn stop_at(&mut self, n: u64)
         ensures plan { plan_of (device_of ⟦<MemDevice as Device>⟧ self.new)
             ≡ stopping_at n (plan_of (device_of ⟦<MemDevice as Device>⟧ self.old)) }
@@ -39,8 +39,8 @@ impl Store<MemDevice> {
         self.held.device.stop_at(n);
     }
 
-    /// What a crash now leaves, as a device of its own: its bytes are synced, and no call of it is made to fail. Without
-    /// memory for it the call is refused with `NoMemory`.
+    /// What a crash now leaves, as a device of its own: its bytes are synced, and no call of it is made to
+    /// fail. Without memory for it the call is refused with `NoMemory`.
     pub fn crash(&self, alloc: Global, image: CrashImage) -> Result<MemDevice, Fault>
         ensures bytes { IfOk result
             (λ d. trace_of d ≡ first (left_by image (device_of ⟦<MemDevice as Device>⟧ self.now))) }

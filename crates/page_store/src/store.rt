@@ -1,4 +1,4 @@
-//! The store.
+//! The store: pages over a log and a device, and the calls that run over them.
 
 ghost use Rattle.std.specs.Prelude.{◌≡◌, ◌≤◌, length};
 ghost use Rattle.page_action.specs.Waiting.{AreWaiting};
@@ -15,9 +15,9 @@ use page_codec::Page;
 use redo_log::{Advance, Log};
 use std::io::Error;
 
-/// The pages of an index over a device: a log makes acts durable, and a crash leaves the pages after some prefix
-/// of the acts, with all that were durable. Of the pages in use at most so many are held in memory as the store has frames,
-/// and nothing allocates.
+/// The pages of an index over a device: a log makes acts durable, and a crash leaves the pages after some
+/// prefix of the acts, with all that were durable. Memory holds at most as many of the pages in use as the
+/// store has frames, and nothing allocates.
 #[derive(Drop)]
 pub struct Store<D: Device> {
     pub(crate) held: LoggedPages<D>,
@@ -51,8 +51,8 @@ impl<D: Device> Store<D> {
     ghost use Rattle.page_store.specs.Taking.{GetFrames, TakingFails};
     ghost use Rattle.page_store.specs.Writing.{AreSeen};
 
-    /// A store of the pages that were read from this device, whose log was just opened and closed. `last_cycle` is the last
-    /// cycle number that was given.
+    /// A store of the pages that were read from this device, whose log was just opened and closed.
+    /// `last_cycle` is the last cycle number that was given.
     pub fn new(device: D, log: Log, room: StoreRoom, last_cycle: u32) -> Store<D>
         requires limits { limits_of log ≡ limits_of_room room }
         requires fresh { actions_of log ≡ 0 }
@@ -87,9 +87,10 @@ impl<D: Device> Store<D> {
         }
     }
 
-    /// Does the next part of a force but for its last sync: writes what waits in the log, or syncs that and opens its gate. A
-    /// sync of the device between two parts makes the next one's fast, and that of the force at their end. Where an act comes
-    /// between, what waits is written again. Refused with `Io` and `Stopped`: the log is stopped then.
+    /// Does the next part of a force, except for its last sync: it writes what waits in the log, or it syncs
+    /// that and opens its gate. A sync of the device between two parts makes the next one's fast, and that of
+    /// the force at their end. If an act comes between, what waits is written again. Refused with `Io` and
+    /// `Stopped`: the log is stopped then.
     pub fn advance(&mut self) -> Result<Advance, Fault>
         ensures steps { Continues (follows_by D.Device) self.old self.new }
         ensures state { state_of D.Device self.new ≡ state_of D.Device self.old }
@@ -103,7 +104,8 @@ impl<D: Device> Store<D> {
         self.held.advance()
     }
 
-    /// What the system said of the last call of the device that failed, if the device is of a system. No clause tells of it.
+    /// What the operating system said of the last device call that failed, if the device is one of an
+    /// operating system. No clause speaks of it.
     pub fn error(&self) -> Option<Error> {
         self.held.device.error()
     }
@@ -115,7 +117,8 @@ impl<D: Device> Store<D> {
         self.held.device
     }
 
-    /// Does nothing: what a crash may have left since an own device's store was as `first`, and what its pages were then.
+    /// Does nothing: its clause says what a crash may have left since the store was as `first`, over a device
+    /// of its own, and what its pages were then.
     pub fn crash_law(&self)
         ensures restarts { (first : Held) (image : List ℕ) → IsOwn first
             → Follows first (held_by D.Device self.now)
@@ -131,7 +134,8 @@ impl<D: Device> Store<D> {
             (held_by D.Device self.now).trace image }
     {}
 
-    // Takes a frame for each of the pages, where not all are in memory. Refused with `NoFrame`, `Io` and `Stopped`.
+    // Takes a frame for each of the pages, if not all are in memory. Refused with `NoFrame`, `Io` and
+    // `Stopped`.
     fn take_frames(&mut self, pages: &[Page]) -> Result<(), Fault>
         requires few { length pages.now ≤ 4 }
         requires actable { AreActable self.old.held.limits

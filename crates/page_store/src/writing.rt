@@ -48,7 +48,8 @@ pub(crate) fn write_page<D: Device>(
     put_page(device, page_place(&limits, block), page)
 }
 
-/// Reads the page of these bytes into the place of another: whether it is one that may be stored at this block.
+/// Reads the page of these bytes into the place of another, and answers whether it is one that may be stored
+/// at this block.
 fn decode_stored(bytes: &[u8; 4096], limits: Format, block: u32, page: &mut Page) -> bool
     ensures stored { IsTrue result → IsStored limits block page.new }
     ensures found { IsTrue result → bytes.now ≡ page_bytes page.new }
@@ -61,8 +62,8 @@ fn decode_stored(bytes: &[u8; 4096], limits: Format, block: u32, page: &mut Page
         && limits.admits(page.layout)
 }
 
-/// Reads the page of this block into the place of another. Refused with `Io`, and with `PageDamaged` where no page stands
-/// there that may be stored at this block; what `page` holds has no meaning then.
+/// Reads the page of this block into the place of another. Refused with `Io`, and with `PageDamaged` if no
+/// page stands there that may be stored at this block; what `page` holds has no meaning then.
 pub(crate) fn read_page<D: Device>(
     device: &mut D,
     limits: Format,

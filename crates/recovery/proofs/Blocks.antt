@@ -67,7 +67,7 @@ pub refused : {T : Type 0} (r : Result T Fault) (e : Fault) (A : T → Type 0) (
 refused (Ok x) e A P is p = absurd is
 refused (Err y) e A P is p = subst P (sym is) p
 
--- block 0 is damaged where it is unused
+-- block 0 is damaged if it is unused
 pub none_in_use : (limits : Format) (file : List ℕ) → 0 < limits.pages → IsEnd limits 0 file → IsDamagedAt limits 0 file
 none_in_use limits file some (inl full) = absurd (omega (arith, full))
 none_in_use limits file some (inr zeros) = record {
@@ -128,7 +128,7 @@ same_gets (p ∷ ps) (q ∷ qs) h =
     let first : p ≡ q = cc in
     ap (λ (x : Page). x ∷ ps) first ∙ ap (λ (l : List Page). q ∷ l) (same_gets ps qs (λ i. h (suc i)))
 
--- where zeros stand there is no page
+-- if zeros stand there is no page
 no_page_there : (limits : Format) (pages : List Page) (file : List ℕ) (block : ℕ) → StandFirst limits pages file → block < length pages → block_bytes limits block file ≢ replicate 4096 0
 no_page_there limits pages file block stand lt zeros = there (slice_get pages block) refl
   where
@@ -153,7 +153,7 @@ one_reading limits ps qs file a b = same_gets ps qs (λ i. at i (slice_get ps i)
     at i (Some p) (Some q) e f =
         ap Some (one_page p q (stored_page limits i ps p a.stored e).storable.admitted (stored_page limits i qs q b.stored f).storable.admitted (sym (a.stand i p e) ∙ b.stand i q f))
 
--- where pages are in use, one or more, no block is damaged
+-- if pages are in use, one or more, no block is damaged
 pub not_damaged : (limits : Format) (pages : List Page) (file : List ℕ) (block : ℕ) → AreInUse limits pages file → 0 < length pages → IsDamagedAt limits block file → ⊥
 not_damaged limits pages file block a some d = there (slice_get pages block) refl
   where

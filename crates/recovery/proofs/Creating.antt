@@ -65,7 +65,7 @@ body_made limits (Ok x) a b gate has only pages log is =
     }
 body_made limits (Err e) a b gate has only pages log is = tt
 
--- the pages stay where only the superblock is written
+-- the pages stay if only the superblock is written
 pub body_stays : (limits : Format) (a b : DiskMoment) → ChangesOnly 0 4096 a b → HasBody limits a → HasBody limits b
 body_stays limits a b only body = record {
   pages = record {

@@ -58,7 +58,7 @@ module _ (limits : Format) (found : Replayed) (k at : ℕ) (image : List ℕ) (t
         (old.0, has_kept (place limits k) 4096 (place limits block) bytes t.now u.now only (apart_long limits block k (length bytes) old.0 (λ (e : block ≡ k). other (sym e))) old.1)
   ]
 
--- and where this block has none
+-- and if this block has none
 pub none_homed : (limits : Format) (found : Replayed) (k : ℕ) (file : List ℕ) → kept_image found k ≡ None → HomedBelow limits found k file → HomedBelow limits found (k + 1) file
 none_homed limits found k file none before block bytes lt found_bytes = elim (cases_eq k block) [
   | inl same ↦ let h : Some bytes ≡ None = sym found_bytes ∙ (ap (kept_image found) (sym same) ∙ none) in absurd cc

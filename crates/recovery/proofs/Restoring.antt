@@ -38,7 +38,7 @@ stands_at limits pages m firm r = record {
   unused = λ block past small. (let home = r.unused block past small in (home.unnamed, firm_on (place limits block) (replicate 4096 0) m firm home.has));
 }
 
--- a crash leaves it, where the log's range that it leaves has these images
+-- a crash leaves it, if the log's range that it leaves has these images
 pub stands_leaves : (limits : Format) (images pages : List Page) (m : DiskMoment) → Stands limits images pages m → (image : List ℕ) → MayCrashTo m image
     → (groups : List (List Page)) → SpellsGroups limits (log_range limits image) groups
     → ((block : ℕ) → last_image (images_of groups) block ≡ last_image images block) → RestartsTo limits image pages

@@ -5,7 +5,7 @@ use Rattle.device.specs.declared.device.Device.{Ghosts}
 use Rattle.index_model.specs.declared.fault.Fault.{Fault}
 use Rattle.index_model.specs.declared.fault.Fault.TheVariants.{Io}
 
--- nothing was read: the device is as long and as honest as before, and the answer is Io where one of
+-- nothing was read: the device is as long and as honest as before, and the answer is Io if one of
 -- its calls failed
 pub record OnlyWrites {D T : Type 0} (g : Ghosts D) (result : Result T Fault) (old new : D)
     : Type 0 where
@@ -23,7 +23,8 @@ pub record ReadsAndWrites {D : Type 0} (g : Ghosts D) (old new : D) : Type 0 whe
   pub len : length (g.trace new).now.seen ≡ length (g.trace old).now.seen
   pub honest : IsTrue (g.is_honest new) → IsTrue (g.is_honest old)
 
--- refused with Io where a call of the device failed, once; or with no failure, for this reason
+-- it is refused with Io if a call of the device failed, once; or it is refused for this reason, and no call
+-- failed
 abbrev pub IsIoOr : (Fault → Type 0) → ℕ → ℕ → Fault → Type 0
 IsIoOr reason old new fault = ((fault ≡ Io) × (new ≡ suc old)) ⊎ (reason fault × (new ≡ old))
 

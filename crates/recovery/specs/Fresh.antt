@@ -83,8 +83,8 @@ pub record IsFinishing (limits : Format) (m : DiskMoment) : Type 0 where
   pub body : HasBody limits m
   pub either : IsFrontLoose m ⊎ OnDisk 0 (superblock limits) m
 
--- a moment while an index is made: what was there loses its superblock, alone; or no crash leaves an index; or the new
--- one gets its superblock, last
+-- a moment while an index is made: what was there loses its superblock, alone; or no crash leaves an index;
+-- or the new one gets its superblock, last
 abbrev pub IsMaking : Format → DiskMoment → DiskMoment → Type 0
 IsMaking limits old m = IsClearing old m ⊎ CrashesToNoMagic m ⊎ IsFinishing limits m
 
@@ -101,8 +101,9 @@ pub record CrashesToEmpty (limits : Format) (m : DiskMoment) : Type 0 where
   pub is_leaf : IsFirstLeaf leaf
   pub leaves : (image : List ℕ) → MayCrashTo m image → HasIndex limits (meta ∷ leaf ∷ []) image
 
--- done on limits in their ranges and a device that is long enough, no call of which failed; or refused: bad limits, or
--- else too short a device, nothing changed; or a call of the device failed once
+-- it is done: the limits are in their ranges, the device is long enough, and no call of it failed; or it is
+-- refused, and nothing is changed: for bad limits, or else for a device that is too short; or it is refused
+-- because a call of the device failed, once
 abbrev pub CreateEnds : {T : Type 0} → Format → Result T Fault → Trace → Trace → ℕ → ℕ → Type 0
 CreateEnds limits result old new failed fails = MatchResult result
     (λ _. AreLimits limits × (needed_length limits ≤ length old.now.seen) × (fails ≡ failed))

@@ -22,11 +22,12 @@ use Rattle.recovery.specs.Superblock.{IsNoSuperblock}
 use Rattle.recovery.specs.declared.opening.Parts.{Parts}
 use Rattle.recovery.specs.declared.opening.Refused.{Refused}
 
--- so many pages may be asked to be in memory: 16 to 1,024
+-- this number of pages may be asked to be in memory: 16 to 1,024
 abbrev pub AreFrames : ℕ → Type 0
 AreFrames frames = (16 ≤ frames) × (frames ≤ 1024)
 
--- the device begins with the superblock of these limits, which are in their ranges, and has room for their index
+-- the device begins with the superblock of these limits, which are in their ranges, and has room for their
+-- index
 pub record IsFront (limits : Format) (file : List ℕ) : Type 0 where
   pub allowed : AreLimits limits
   pub superblock_is : take 4096 file ≡ superblock limits
@@ -47,16 +48,16 @@ abbrev pub HasGroups : Format → List ℕ → Type 0
 HasGroups limits file =
     (groups : List (List Page)) × SpellsGroups limits (log_range limits file) groups
 
--- refused before anything is done: frames out of their range; or else a device of less than 4,096 bytes; or else what
--- stands in front
+-- it is refused before anything is done: for frames out of their range; or else for a device of less than
+-- 4,096 bytes; or else for what stands in front
 abbrev pub IsFrontRefusal : Bool → ℕ → List ℕ → Fault → Type 0
 IsFrontRefusal honest frames file fault =
     ((fault ≡ BadLimits) × (AreFrames frames → ⊥))
     ⊎ (AreFrames frames × (((fault ≡ BadSuper) × (length file < 4096))
     ⊎ ((4096 ≤ length file) × IsFrontFault fault × (IsTrue honest → IsNoFront file fault))))
 
--- refused after that: a growth was refused; or an open group of the log is none, and nothing was written; or a block is
--- damaged
+-- it is refused after that: memory was refused; or an open group of the log isn't one of the format, and
+-- nothing was written; or a block is damaged
 abbrev pub IsRestoreRefusal : Format → Bool → Trace → Trace → Fault → Type 0
 IsRestoreRefusal limits honest old new fault =
     (fault ≡ NoMemory)
@@ -82,7 +83,8 @@ pub record IsRestored (limits : Format) (honest : Bool) (file : List ℕ) (parts
   pub closed : groups_end parts.log ≡ 0
   pub read : IsAllRead limits honest file parts.found
 
--- the index that was found: restored, on a device that is long enough; its superblock stood there, and an undamaged log
+-- the index that was found: restored, on a device that is long enough; its superblock stood there, and an
+-- undamaged log
 pub record IsFound (honest : Bool) (old new : List ℕ) (parts : Parts) : Type 0 where
   pub limits : Format
   pub allowed : AreLimits limits
@@ -100,8 +102,9 @@ pub record AreSamePages (pages : List Page) (m : DiskMoment) (parts : Parts) : T
 abbrev pub IsNoMemoryOrIo : Fault → Type 0
 IsNoMemoryOrIo fault = (fault ≡ NoMemory) ⊎ (fault ≡ Io)
 
--- the state as it is opened with its pages, for so many frames: as many as the limits allow, one or more, each one that
--- may be stored; no deletion number counts, and the last cycle number is the greatest of the pages
+-- the state as it is opened with its pages, for `frames` frames: as many as the limits allow, one or more,
+-- each one that may be stored; no deletion number counts, and the last cycle number is the greatest of the
+-- pages
 pub record IsFreshlyOpened (frames : ℕ) (st : State) : Type 0 where
   pub allowed : AreLimits st.limits
   pub some : 0 < length st.pages
@@ -110,8 +113,8 @@ pub record IsFreshlyOpened (frames : ℕ) (st : State) : Type 0 where
   pub is : st ≡ opened_state st.limits frames st.pages
       (replicate (length st.pages) 0) (greatest_cycle st.pages)
 
--- the index of a store stands on its device: its superblock and an undamaged log stood there before, its pages stand
--- there now
+-- the index of a store stands on its device: its superblock and an undamaged log stood there before, its
+-- pages stand there now
 pub record StandsOnDevice (st : State) (old new : List ℕ) : Type 0 where
   pub front : IsFront st.limits old
   pub undamaged : HasGroups st.limits old

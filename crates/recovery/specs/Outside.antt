@@ -20,7 +20,8 @@ SameLogBytes limits old new = AtEachMoment (IsUntouched (log_start + 1) (limits.
 abbrev pub ChangesAfterFront : Format → Trace → Trace → Type 0
 ChangesAfterFront limits old new = AtEachMoment (ChangesOnly log_start (limits.log_bytes + 4096 * limits.pages) old.now) old new
 
--- nothing but the log and the pages of one index has changed, whose superblock stood there if the device kept its model
+-- nothing but the log and the pages of one index has changed, whose superblock stood there if the device kept
+-- its model
 pub record ChangesOneIndex (honest : Bool) (old new : Trace) : Type 0 where
   pub limits : Format
   pub allowed : AreLimits limits

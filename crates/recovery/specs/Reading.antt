@@ -15,7 +15,7 @@ use Rattle.recovery.specs.declared.reading.Found.{Found}
 abbrev pub block_bytes : Format → ℕ → List ℕ → List ℕ
 block_bytes limits block file = slice_range file (place limits block) (place limits block + 4096)
 
--- the bytes are those of the page, which the format admits; or zeros, where there is none
+-- the bytes are those of the page, which the format admits; or zeros, if there is none
 abbrev pub AreBytesOf : Option Page → List ℕ → Type 0
 AreBytesOf None bytes = bytes ≡ replicate 4096 0
 AreBytesOf (Some page) bytes = IsPage page × (bytes ≡ page_bytes page)
@@ -25,7 +25,7 @@ abbrev pub StandFirst : Format → List Page → List ℕ → Type 0
 StandFirst limits pages file = (block : ℕ) (page : Page) → slice_get pages block ≡ Some page
     → block_bytes limits block file ≡ page_bytes page
 
--- after so many blocks none is in use: there is no block more, or zeros stand at the place of the next one
+-- after `used` blocks none is in use: there is no block more, or zeros stand at the place of the next one
 abbrev pub IsEnd : Format → ℕ → List ℕ → Type 0
 IsEnd limits used file = (used ≡ limits.pages) ⊎ (block_bytes limits used file ≡ replicate 4096 0)
 
@@ -36,7 +36,8 @@ pub record AreInUse (limits : Format) (pages : List Page) (file : List ℕ) : Ty
   pub stand : StandFirst limits pages file
   pub end : IsEnd limits (length pages) file
 
--- in front of the block pages stand, and at its place no page that may be stored there; nor zeros, except for block 0
+-- in front of the block pages stand, and at its place no page that may be stored there; nor zeros, except for
+-- block 0
 pub record IsDamagedAt (limits : Format) (block : ℕ) (file : List ℕ) : Type 0 where
   pub before : List Page
   pub stored : AreStored limits 0 before
@@ -52,13 +53,13 @@ abbrev pub IsDamagedBlock : Format → Bool → List ℕ → Fault → Type 0
 IsDamagedBlock limits honest file fault = (block : ℕ) × (fault ≡ PageDamaged block)
     × (IsTrue honest → IsDamagedAt limits block file)
 
--- the greatest cycle number of these pages, 0 where there is none
+-- the greatest cycle number of these pages, 0 if there is none
 abbrev pub greatest_cycle : List Page → ℕ
 greatest_cycle [] = 0
 greatest_cycle (page ∷ pages) = max page.cycle (greatest_cycle pages)
 
--- what was read: pages that may be stored, no deletion number that counts, and the greatest cycle number; the pages
--- stand on the device, if it is honest
+-- what was read: pages that may be stored, no deletion number that counts, and the greatest cycle number; the
+-- pages stand on the device, if it is honest
 pub record HasReadPages (limits : Format) (honest : Bool) (file : List ℕ) (found : Found)
     : Type 0 where
   pub limits_are : limits_of_room found.room ≡ limits

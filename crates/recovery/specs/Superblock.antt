@@ -36,8 +36,8 @@ sizes_in bytes = record {
   log_bytes = spelled_number 20 bytes;
 }
 
--- the bytes are no superblock: they begin otherwise; or else their layout is none; or else the sizes are out of their
--- ranges; or else other bytes stand after them than a superblock has
+-- the bytes are no superblock: they begin otherwise; or else their layout is none; or else the sizes are out
+-- of their ranges; or else other bytes stand after them than a superblock has
 abbrev pub IsNoSuperblock : List ℕ → Fault → Type 0
 IsNoSuperblock bytes fault =
     ((fault ≡ BadSuper) × (take 8 bytes ≢ magic))

@@ -144,8 +144,8 @@ fn place_front<D: Device>(device: &mut D, bytes: &[u8; 4096]) -> Result<(), Faul
     device.sync()
 }
 
-/// Writes and syncs an empty index over whatever the device holds, in this order: zeros over the superblock; then the
-/// pages and a closed log; then the superblock. If it is stopped in between, it may be called again.
+/// Writes and syncs an empty index over whatever the device holds, in this order: zeros over the superblock;
+/// then the pages and a closed log; then the superblock. If it is stopped in between, it may be called again.
 fn write_index<D: Device>(device: &mut D, limits: &Format) -> Result<(), Fault>
     requires allowed { AreLimits limits.now }
     requires inside { needed_length limits.now ≤ length (D.trace device.old).now.seen }
@@ -163,13 +163,14 @@ fn write_index<D: Device>(device: &mut D, limits: &Format) -> Result<(), Fault>
     place_front(device, &front)
 }
 
-/// Makes an empty index of these limits on the device, over whatever it holds: the superblock, a closed log, the
-/// metapage, one empty leaf, and zeros in all other blocks, all of it synced. Of the log it writes the first gate alone:
-/// what stands after that stays, and so do bytes after the last block.
+/// Makes an empty index of these limits on the device, over whatever it holds: the superblock, a closed log,
+/// the metapage, one empty leaf, and zeros in all other blocks, all of it synced. Of the log it writes the
+/// first gate alone: what stands after that stays, and so do bytes after the last block.
 ///
-/// Refused, with the device as it was: limits out of their ranges (`BadLimits`); a device shorter than
-/// 4,096 + `log_bytes` + 4,096 * `pages` bytes (`DeviceTooSmall`). A failed device call answers `Io`; then, and after a
-/// crash inside of it, the device is to be made anew, by this call, which takes any bytes. It takes no memory.
+/// Refused, with the device as it was: with `BadLimits` (18) for limits out of their ranges; with
+/// `DeviceTooSmall` (20) for a device of fewer than 4,096 + `log_bytes` + 4,096 * `pages` bytes. Refused with
+/// `Io` (2) if a device call fails. After that, and after a crash during the call, the index is to be made
+/// anew: this call takes a device with any bytes. It takes no memory.
 pub fn create<D: Device>(device: &mut D, limits: &Limits) -> Result<(), Fault>
     ensures made { OnOk result (IsEmptyIndex (made limits.now) (D.trace device.new).now) }
     // So it can be opened, also after a crash.

@@ -30,8 +30,8 @@ fn write_images<D: Device>(device: &mut D, limits: Format, found: &Replayed) -> 
     Ok(())
 }
 
-/// Writes the last image of each block to its place, and syncs them. At each moment only places of blocks that have an
-/// image change. Refused with `Io`.
+/// Writes the last image of each block to its place, and syncs them. At each moment only places of blocks
+/// that have an image change. Refused with `Io`.
 pub(crate) fn bring_home<D: Device>(
     device: &mut D,
     limits: Format,

@@ -42,9 +42,9 @@ pub(crate) struct Parts {
     pub(crate) found: Found,
 }
 
-/// The sizes of the index on the device. Refused, in this order: a number of frames out of 16 to 1,024 (`BadLimits`);
-/// fewer than 4,096 bytes (`BadSuper`); a failed read (`Io`); what the superblock is refused with; a device shorter than
-/// it says (`BadSuper`).
+/// The sizes of the index on the device. Refused, in this order: a number of frames out of 16 to 1,024
+/// (`BadLimits`); fewer than 4,096 bytes (`BadSuper`); a failed read (`Io`); what the superblock is refused
+/// with; a device shorter than it says (`BadSuper`).
 fn find_limits<D: Device>(device: &mut D, frames: u32) -> Result<Format, Fault>
     ensures front { IfOk result (λ limits. IsTrue (D.is_honest device.new)
         → IsFront limits (D.trace device.old).now.seen) }
@@ -75,8 +75,8 @@ fn find_limits<D: Device>(device: &mut D, frames: u32) -> Result<Format, Fault>
     Ok(limits)
 }
 
-/// Brings what the log holds to the places of its blocks, and closes the log. Refused with `NoMemory`, `Io` and
-/// `LogDamaged`.
+/// Brings what the log holds to the places of its blocks, and closes the log. Refused with `NoMemory`, `Io`
+/// and `LogDamaged`.
 fn restore_log<D: Device>(alloc: Global, device: &mut D, limits: Format) -> Result<Log, Fault>
     requires allowed { AreLimits limits }
     requires inside { needed_length limits ≤ length (D.trace device.old).now.seen }
@@ -109,8 +109,8 @@ fn restore_log<D: Device>(alloc: Global, device: &mut D, limits: Format) -> Resu
     Ok(log)
 }
 
-/// Makes what a read gives stand through a crash, restores the log and reads the pages. Refused with `NoMemory`, `Io`,
-/// `LogDamaged` and `PageDamaged`.
+/// Makes what a read gives stand through a crash, restores the log and reads the pages. Refused with
+/// `NoMemory`, `Io`, `LogDamaged` and `PageDamaged`.
 fn restore<D: Device>(
     alloc: Global,
     device: &mut D,
@@ -168,19 +168,22 @@ fn read_index<D: Device>(alloc: Global, device: &mut D, frames: u32) -> Result<P
     restore(alloc, device, limits, frames)
 }
 
-/// Opens the index on the device, after any crash, for so many pages in memory at once (16 to 1,024), its frames. It
-/// reads the superblock, syncs the device, reads the log, writes the last image of each block in its open groups to its
-/// place, syncs them, closes the log, and reads the pages of the blocks in use. Its room is then that of an empty log,
-/// (`log_bytes` - 6) / 4,096 images. After it, nothing takes memory.
+/// Opens the index on the device, after any crash, for `frames` pages in memory at once (16 to 1,024). It
+/// reads the superblock, syncs the device and reads the log. It writes the last image of each block in the
+/// log's open groups to its place, syncs these, and closes the log. Then it reads the pages of the blocks in
+/// use. Its room is then that of an empty log, (`log_bytes` - 6) / 4,096 images. After it, nothing takes
+/// memory.
 ///
-/// Refused, tested in this order, with the device given back: with `BadLimits` (18) for other numbers of frames; with
-/// `BadSuper` (14) for a device of less than 4,096 bytes; with `BadSuper`, `BadVersion` (15) or `BadLimits` for what
-/// stands in place of a superblock; with `BadSuper` for a device shorter than the superblock says: up to here nothing is
-/// written. Then with `LogDamaged` (16) where an open group of the log is none, and with `PageDamaged` (17) for the first
-/// block in use whose page is none that may stand there, or for block 0 where none is in use. A failed call of the
-/// device answers `Io` (2), a growth that was refused `NoMemory` (1).
+/// Refused, tested in this order, with the device given back: with `BadLimits` (18) for other numbers of
+/// frames; with `BadSuper` (14) for a device of less than 4,096 bytes; with `BadSuper`, `BadVersion` (15) or
+/// `BadLimits` for what stands in place of a superblock; with `BadSuper` for a device shorter than the
+/// superblock says: up to here nothing is written. Then with `LogDamaged` (16) if an open group of the log
+/// isn't one of the format; with `PageDamaged` (17) for the first block in use whose page may not stand
+/// there, or for block 0 if no block is in use. A failed call of the device answers `Io` (2), a growth that
+/// was refused `NoMemory` (1).
 ///
-/// It never changes which pages the bytes stand for: after a refusal, or a crash at any moment, it may be called again.
+/// It never changes which pages the bytes stand for: after a refusal, or a crash at any moment, it may be
+/// called again.
 pub fn open<D: Device>(alloc: Global, device: D, frames: u32) -> Result<Store<D>, Refused<D>>
     ensures frames { OnOk result (AreFrames frames) }
     ensures opened { IfOk result (λ store. IsFreshlyOpened frames (state_of D.Device store)) }

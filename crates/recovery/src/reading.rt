@@ -17,14 +17,16 @@ use page_codec::{Page, decode, is_unused, page_place};
 use page_store::StoreRoom;
 use std::alloc::Global;
 
-/// What was read of an index: its blocks in use with the room for more and for the frames, and the greatest cycle number.
+/// What was read of an index: its blocks in use with the room for more and for the frames, and the greatest
+/// cycle number.
 #[derive(Drop)]
 pub(crate) struct Found {
     pub(crate) room: StoreRoom,
     pub(crate) last_cycle: u32,
 }
 
-/// The page of these bytes; none where they are zeros. Other bytes are refused with `PageDamaged` for this block.
+/// The page of these bytes; none if they are zeros. Other bytes are refused with `PageDamaged` for this
+/// block.
 fn page_of(block: u32, bytes: &[u8; 4096]) -> Result<Option<Page>, Fault>
     ensures found { IfOk result (λ found. AreBytesOf found bytes.now) }
     ensures fault { IfErr result (λ e. e ≡ Fault.PageDamaged block) }
@@ -41,7 +43,8 @@ fn page_of(block: u32, bytes: &[u8; 4096]) -> Result<Option<Page>, Fault>
     }
 }
 
-/// Reads the page of the block; none where it is unused. Refused with `Io`, and with `PageDamaged` for this block.
+/// Reads the page of the block; none if it is unused. Refused with `Io`, and with `PageDamaged` for this
+/// block.
 fn read_page<D: Device>(device: &mut D, limits: Format, block: u32) -> Result<Option<Page>, Fault>
     requires allowed { AreLimits limits }
     requires block { block < limits.pages }
@@ -94,10 +97,9 @@ fn add_pages<D: Device>(device: &mut D, limits: Format, found: &mut Found) -> Re
     Ok(limits.pages)
 }
 
-/// Reads the pages of the blocks in use, up to the first unused one, each once; none stays in memory. Refused with
-/// `NoMemory`, `Io`, and with
-/// `PageDamaged` for the first block whose bytes are no page that may be stored there; also for block 0 where it is
-/// unused.
+/// Reads the pages of the blocks in use, up to the first unused one, each once; none stays in memory. Refused
+/// with `NoMemory`, `Io`, and with `PageDamaged` for the first block whose bytes are no page that may be
+/// stored there; also for block 0 if it is unused.
 pub(crate) fn read_pages<D: Device>(
     alloc: Global,
     device: &mut D,

@@ -99,9 +99,11 @@ fn number_at(bytes: &[u8; 4096], at: usize) -> u32
     u32::from_le_bytes(number)
 }
 
-/// The layout and the sizes of the index whose superblock these bytes are, and whether it is unique. Other bytes are refused, in
-/// this order: another beginning than `BLINKIDX` (`BadSuper`), another layout than 1 or 2 (`BadVersion`), sizes out of their ranges
-/// (`BadLimits`), after them another number than 0 or, in the second layout, 1, or anything but zeros after that (`BadSuper`).
+/// The layout and the sizes of the index whose superblock these bytes are, and whether it is unique. Other
+/// bytes are refused, tested in this order. With `BadSuper` (14) if they don't begin with `BLINKIDX`; with
+/// `BadVersion` (15) for a layout other than 1 or 2; with `BadLimits` (18) for sizes out of their ranges.
+/// Then with `BadSuper` if the next number is neither 0 nor, in the second layout, 1, or if other bytes than
+/// zeros stand after it.
 pub(crate) fn read_superblock(bytes: &[u8; 4096]) -> Result<Format, Fault>
     ensures allowed { IfOk result AreLimits }
     ensures found { IfOk result (λ limits. bytes.now ≡ superblock limits) }

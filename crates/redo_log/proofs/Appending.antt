@@ -45,7 +45,7 @@ fits_more : (at old new size : ℕ) → (0 < old → at + (6 + 4096 * old) ≤ s
 fits_more at old zero size waits more some = omega (arith, waits (omega arith))
 fits_more at old (suc new) size waits more some = more (omega arith)
 
--- where the new ones of these images fit, the group that waits then does
+-- if the new ones of these images fit, the group that waits then does
 pub fits_with : (log : Log) (images : List Page) → (0 < new_count (waiting_blocks log) images → ImagesFit log (new_count (waiting_blocks log) images))
     → 0 < length (with_blocks (waiting_blocks log) images) → log.at + (6 + 4096 * length (with_blocks (waiting_blocks log) images)) ≤ log.limits.log_bytes
 fits_with log images fit some =

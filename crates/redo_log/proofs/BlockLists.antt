@@ -76,7 +76,7 @@ inside-push blocks block size inside below k lt = ⊎_elim
     (λ last. subst (λ (b : ℕ). b < size) (sym (get_or_push blocks block 0 k (omega (arith, length-append blocks (block ∷ []), lt)))) below)
     (cases_lt k (length blocks))
 
--- where a table has each of them at its own place, they are distinct
+-- if a table has each of them at its own place, they are distinct
 distinct_placed : (places blocks : List ℕ) (from : ℕ) → ((k : ℕ) → k < length blocks → get_or places (get_or blocks k 0) 0 ≡ from + k) → AreDistinct blocks
 distinct_placed places [] from placed = tt
 distinct_placed places (b ∷ blocks) from placed = (
@@ -113,8 +113,9 @@ distinct-with_block blocks block distinct = ⊎_elim
     (λ new. subst AreDistinct (sym (with_block-new blocks block new)) (distinct-push blocks block distinct new))
     (cases_Bool (is_among_blocks blocks block))
 
--- the step of the next lemma but one, in tests: a, whether the block of an image is among those that wait; e, whether
--- it is the block that waits too now; n and m, whether these two are among the blocks of the later images
+-- the step of the next lemma but one, in tests: a, whether the block of an image is among those that wait; e,
+-- whether it is the block that waits too now; n and m, whether these two are among the blocks of the later
+-- images
 one_less : (a e n m : Bool) (before after : ℕ) → before ≡ after + cond m 1 0 → (e ≡ true → (a ≡ false) × (n ≡ m))
     → cond (a || n) before (suc before) ≡ cond ((a || e) || n) after (suc after) + cond (e || m) 1 0
 one_less true false n m before after is same = is
@@ -162,7 +163,7 @@ new_count-new blocks p ps new =
     once true e = omega arith
     once false e = omega arith
 
--- so many are after them then
+-- then the blocks are more by the new ones of these pages
 pub length-with_blocks : (blocks : List ℕ) (ps : List Page) → length (with_blocks blocks ps) ≡ length blocks + new_count blocks ps
 length-with_blocks blocks [] = omega arith
 length-with_blocks blocks (p ∷ ps) = ⊎_elim

@@ -53,12 +53,12 @@ all_forced log m acts forced k idle =
       unforced = same_eq k.waiting _ (no_more ∙ sym (ap images_of (drop-length acts)));
     }
 
--- each part of a force over a log that keeps these actions; `gate` is the place of the gate behind its groups
+-- each part of a force over a log that keeps these actions; `gate` is the place of the gate after its groups
 module _ (log : Log) (acts : List (List Page)) (forced : ℕ) where
   abbrev gate : ℕ
   gate = 4096 + log.at
 
-  -- what is written behind the gate
+  -- what is written after the gate
   module _ (t : Trace) (k : LogHolds log t.now acts forced) (shut : is_ajar log ≡ false) (b : List ℕ) where
     settled : IsSettled log.limits 4096 log.at k.groups t.now
     settled = shut_gate log t.now acts forced k shut
@@ -118,7 +118,7 @@ module _ (log : Log) (acts : List (List Page)) (forced : ℕ) where
       enough : log.at + (6 + 4096 * length k.waiting) ≤ log.limits.log_bytes
       enough = omega (arith, k.waits.counted, log.fits some)
 
-      -- the images behind the gate and before it are those of all actions
+      -- the images after the gate and before it are those of all actions
       all_there : SameImages (images_of (k.groups ++ k.waiting ∷ [])) (images_of (take (length acts) acts))
       all_there = all_waiting log t.now acts forced k
 
@@ -267,7 +267,7 @@ gate_outside log t u inside is r v w =
     (only_wider (4096 + log.at) (length b) 4096 log.limits.log_bytes u.now (wrote (4096 + log.at) b u.now) (omega arith) (omega (arith, n, log.room))
     (wrote_only (4096 + log.at) b u.now (omega (arith, n, log.room, inside, first.same_length))))))
 
--- nor does what is written behind the gate
+-- nor does what is written after the gate
 pub body_outside : (log : Log) (t : Trace) (b : List ℕ) → 4096 + log.limits.log_bytes ≤ length t.now.seen → 0 < waiting_count log → length b ≡ 5 + 4096 * waiting_count log
     → {T E : Type 0} (r : Result T E) (u : Trace) → Writes (4096 + log.at + 1) b r t u → AtEachMoment (ChangesOnly 4096 log.limits.log_bytes t.now) t u
 body_outside log t b inside some long r u w =
@@ -275,7 +275,7 @@ body_outside log t b inside some long r u w =
     writes_goes _ (4096 + log.at + 1) b r t u w (λ b' n. only_wider (4096 + log.at + 1) (length b') 4096 log.limits.log_bytes t.now (wrote (4096 + log.at + 1) b' t.now)
     (omega arith) (omega (arith, n, long, fits)) (wrote_only (4096 + log.at + 1) b' t.now (omega (arith, n, long, fits, inside))))
 
--- a part of a force behind another
+-- a part of a force after another
 module _ (old mid : Log) (t u v : Trace) (same : SameLog old mid) where
   pub then_moments : RestartsThroughout old t u → KeepsActions old t.now mid u.now → RestartsThroughout mid u v → RestartsThroughout old t v
   then_moments first keeps second acts forced k = goes_on _ t u v (first acts forced k)
@@ -288,7 +288,7 @@ module _ (old mid : Log) (t u v : Trace) (same : SameLog old mid) where
       goes_on _ t u v first (goes_weaker _ _ u v (λ m only. only_more 4096 size t.now u.now m before only)
       (subst (λ (l : Format). ChangesItsRange l u v) same.limits second))
 
--- where the group that waits would end, it does behind parts of a force that leave the end and what waits
+-- parts of a force that leave the end and what waits leave the place where the group that waits would end
 module _ {T E : Type 0} (old mid new : Log) (r : Result T E) (end : groups_end mid ≡ groups_end old) (blocks : waiting_blocks mid ≡ waiting_blocks old) where
   end_stays : (n : ℕ) → end_with mid n ≡ end_with old n
   end_stays n = omega (arith, end, ap length blocks)

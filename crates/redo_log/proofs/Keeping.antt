@@ -13,7 +13,7 @@ keeps_all log m acts forced k =
     (same_trans _ (images_of (take forced acts) ++ images_of (drop forced acts)) _ (same_after (images_of (take forced acts)) k.waiting _ k.unforced)
     (same_eq _ _ (sym (images_of-append (take forced acts) (drop forced acts)) ∙ ap images_of (take-append-drop forced acts))))
 
--- no gate is ajar where nothing waits
+-- no gate is ajar if nothing waits
 pub none_ajar : (log : Log) → waiting_count log ≡ 0 → is_ajar log ≡ false
 none_ajar log idle = by (is_ajar log) refl
   where
@@ -69,7 +69,7 @@ pub forgets_all : (old : Log) (before : DiskMoment) (new : Log) (after : DiskMom
     → (acts : List (List Page)) (forced : ℕ) → LogHolds old before acts forced → LogHolds new after [] 0
 forgets_all old before new after forgets same idle acts forced k = keeps_none new after (drop forced acts) (forgets acts forced k) (same ∙ idle)
 
--- where a group may be let in, a crash leaves the actions without it, or with it
+-- if a group may be let in, a crash leaves the actions without it, or with it
 pub ajar_restarts : (log : Log) (m n : DiskMoment) (acts : List (List Page)) (forced : ℕ) (k : LogHolds log m acts forced) (a : MayBeLetIn log m acts forced k.groups k.waiting)
     → OnDisk 4096 (spelled_groups k.groups) n → OnDisk (4096 + log.at + 1) (body a.group ++ 0 ∷ []) n → Restarts (limits_of log) acts forced n
 ajar_restarts log m n acts forced k a front behind image left = ⊎_elim
@@ -77,7 +77,7 @@ ajar_restarts log m n acts forced k a front behind image left = ⊎_elim
     (λ s. record { part = a.part; from = a.from; to = a.to; holds = record { groups = k.groups ++ a.group ∷ []; spells = s; same = a.same } })
     (lets_in log.limits 4096 log.limits.log_bytes log.at k.groups a.ajar.good a.ajar.end a.group a.ajar.one a.ajar.room n front behind image left)
 
--- where its groups stand before a closed gate, a crash leaves those that are forced
+-- if its groups stand before a closed gate, a crash leaves those that are forced
 pub settled_restarts : (log : Log) (m n : DiskMoment) (acts : List (List Page)) (forced : ℕ) (k : LogHolds log m acts forced)
     → IsSettled log.limits 4096 log.at k.groups n → Restarts (limits_of log) acts forced n
 settled_restarts log m n acts forced k s image left = record {

@@ -16,7 +16,7 @@ pub length-blocks_of : (ps : List Page) → length (image_blocks ps) ≡ length 
 length-blocks_of [] = refl
 length-blocks_of (p ∷ ps) = ap suc (length-blocks_of ps)
 
--- where the first image is of the block of this one, it is replaced
+-- if the first image is of the block of this one, it is replaced
 with_image-here : (q : Page) (qs : List Page) (p : Page) → (q.block == p.block) ≡ true → with_image (q ∷ qs) p ≡ p ∷ qs
 with_image-here q qs p here = ap (λ (t : Bool). cond t (p ∷ qs) (q ∷ with_image qs p)) here
 
@@ -78,7 +78,7 @@ with_image-new (q ∷ qs) p new =
     let parts = or_parts (q.block == p.block) (is_among_blocks (image_blocks qs) p.block) new in
     with_image-there q qs p parts.0 ∙ ap (λ (l : List Page). q ∷ l) (with_image-new qs p parts.1)
 
--- the first of two lists, and so many of the second
+-- the first of two lists, and the first `m` of the second
 take_after : (front more : List ℕ) (n m : ℕ) → n ≡ length front + m → take n (front ++ more) ≡ front ++ take m more
 take_after front more n m e = ap (λ (k : ℕ). take k (front ++ more)) e ∙ take-append-add front more m
 
@@ -123,7 +123,7 @@ replaced old part at n long inside fits =
     ∙ (ap (λ (l : List ℕ). take at body ++ (part ++ l)) (sym (drop-take (at + 4096) rest body) ∙ ap (λ (k : ℕ). drop (at + 4096) (take k body)) (sym whole))
     ∙ ap (λ (l : List ℕ). l ++ (part ++ drop (at + 4096) (take n body))) (sym (take-take at n body (omega arith)))))))
 
--- no image is laid where no block waits
+-- no image is laid if no block waits
 pub none_laid : (limits : Format) (order buffer : List ℕ) → order ≡ [] → AreLaid limits order buffer []
 none_laid limits order buffer none = subst (λ (l : List ℕ). AreLaid limits l buffer []) (sym none) (record { counted = refl; images = tt; blocks = refl; buffered = refl })
 
@@ -194,7 +194,7 @@ laid_more limits order order' old new p k more lt is distinct fits put image lai
         ap (λ (n : ℕ). take (4096 * n) (written old p k)) size
         ∙ (ap (λ (n : ℕ). take (4096 * (length order + 1)) (written old p n)) last ∙ laid_new limits order old p apart (omega (arith, fits, size)) image laid a)
 
--- what was laid lies so still where its place wasn't written
+-- what was laid lies so still if its place wasn't written
 pub laid_still : (limits : Format) (order : List ℕ) (v : Vec ℕ Global) (sealed : List ℕ) (laid : List Page) {given : List ℕ} → given ≡ v.items → length sealed ≡ v.len
     → take (4096 * length order) (drop 4 sealed) ≡ take (4096 * length order) (drop 4 given) → AreLaid limits order v.items laid → AreLaid limits order (with_items v sealed).items laid
 laid_still limits order v sealed laid was long same a = record {

@@ -50,7 +50,7 @@ some_byte at c lt = record { within = omega arith; each = λ i below. one i belo
     one zero below = (let e : at + 0 ≡ at = omega arith in ap (λ (k : ℕ). get_or c k 0) e)
     one (suc i) below = absurd (omega arith)
 
--- the groups stand on the disk, and behind them a gate that is closed
+-- the groups stand on the disk, and after them a gate that is closed
 module _ (limits : Format) (start size at : ℕ) (gs : List (List Page)) (m : DiskMoment) (s : IsSettled limits start at gs m) (fits : at + 1 ≤ size) where
   pub settled_leaves : (c : List ℕ) → MayCrashTo m c → SpellsGroups limits (take size (drop start c)) gs
   settled_leaves c left = shut_stands limits start size gs s.gate c s.good s.closed (omega (arith, s.end)) (on_image start _ m c s.on_disk left)
@@ -58,7 +58,7 @@ module _ (limits : Format) (start size at : ℕ) (gs : List (List Page)) (m : Di
   pub settled_front : OnDisk start (spelled_groups gs) m
   settled_front = on_front start (spelled_groups gs) (s.gate ∷ []) m s.on_disk
 
-  -- whatever is written behind the gate
+  -- whatever is written after the gate
   pub settled_behind : (n : ℕ) (m' : DiskMoment) → ChangesOnly (start + at + 1) n m m' → IsSettled limits start at gs m'
   settled_behind n m' only = record {
     good = s.good;
@@ -78,7 +78,7 @@ module _ (limits : Format) (start size at : ℕ) (gs : List (List Page)) (m : Di
     on_disk = synced_on start (spelled_groups gs ++ s.gate ∷ []) m s.on_disk.has;
   }
 
--- the groups, and one more behind a gate
+-- the groups, and one more after a gate
 module _ (limits : Format) (start size at : ℕ) (gs : List (List Page)) (good : AreGroups limits gs) (end : at ≡ length (spelled_groups gs))
     (g : List Page) (is : IsGroup limits g) (room : at + (6 + 4096 * length g) ≤ size) where
   abbrev piece : List ℕ
@@ -90,7 +90,7 @@ module _ (limits : Format) (start size at : ℕ) (gs : List (List Page)) (good :
   end_is : start + at ≡ start + length (spelled_groups gs)
   end_is = omega (arith, end)
 
-  -- the groups with this gate behind them, whatever it is
+  -- the groups with this gate after them, whatever it is
   with_gate : (x : ℕ) (c : List ℕ) → Has start (spelled_groups gs) c → Has (start + at) (x ∷ []) c → Has start (spelled_groups gs ++ x ∷ []) c
   with_gate x c front gate = has_both start (spelled_groups gs) (x ∷ []) c front (subst (λ (n : ℕ). Has n (x ∷ []) c) end_is gate)
 
@@ -108,7 +108,7 @@ module _ (limits : Format) (start size at : ℕ) (gs : List (List Page)) (good :
   good_pushed : AreGroups limits (gs ++ g ∷ [])
   good_pushed = all-append (IsGroup limits) gs (g ∷ []) good (is, tt)
 
-  -- where the group stands, a crash lets it in or not
+  -- if the group stands, a crash lets it in or not
   pub lets_in : (n : DiskMoment) → OnDisk start (spelled_groups gs) n → OnDisk (start + at + 1) piece n → (c : List ℕ) → MayCrashTo n c
       → SpellsGroups limits (take size (drop start c)) gs ⊎ SpellsGroups limits (take size (drop start c)) (gs ++ g ∷ [])
   lets_in n on_gs on_piece c left =

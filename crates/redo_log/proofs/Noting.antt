@@ -53,7 +53,7 @@ note_more limits log images lasts p place noted few some inside is =
       ];
     }
 
--- so many images were read and noted, of those that stand there
+-- the first `k` images of those that stand there were read and noted
 pub record NotedSoFar (limits : Format) (log : List ℕ) (at count k : ℕ) (old now : List ℕ) : Type 0 where
   pub images : List Page
   pub read : ImagesSoFar limits (take (4096 * count) (drop at log)) (drop (4096 * k) (take (4096 * count) (drop at log))) images

@@ -16,7 +16,7 @@ abbrev pub is_among_blocks : List ℕ → ℕ → Bool
 is_among_blocks [] block = false
 is_among_blocks (b ∷ blocks) block = (b == block) || is_among_blocks blocks block
 
--- these blocks, and after them this one where it isn't among them
+-- these blocks, and after them this one if it isn't among them
 abbrev pub with_block : List ℕ → ℕ → List ℕ
 with_block blocks block = if is_among_blocks blocks block then blocks else blocks ++ block ∷ []
 
@@ -36,7 +36,7 @@ new_count blocks (p ∷ ps) =
 abbrev pub AreInside : ℕ → List Page → Type 0
 AreInside pages ps = AllByRecursion (λ p. p.block < pages) ps
 
--- these images, with this one in the place of its block's, or after them where there is none
+-- these images, with this one in the place of its block's, or after them if there is none
 abbrev pub with_image : List Page → Page → List Page
 with_image [] p = p ∷ []
 with_image (q ∷ qs) p = if q.block == p.block then p ∷ qs else q ∷ with_image qs p

@@ -10,7 +10,8 @@ use Rattle.page_codec.specs.Grammar.{IsPage}
 use Rattle.page_codec.specs.Spelling.{count_of}
 use Rattle.redo_log.specs.Images.{images_bytes}
 
--- its block is below the number of pages, it has no more items than a page may, and is of a layout that the index may have
+-- its block is below the number of pages, it has no more items than a page may, and is of a layout that the
+-- index may have
 pub record IsWithin (limits : Format) (p : Page) : Type 0 where
   pub block : p.block < limits.pages
   pub items : count_of p.items ≤ limits.items

@@ -33,11 +33,11 @@ waiting_blocks log = log.waiting.blocks.items
 abbrev pub waiting_count : Log → ℕ
 waiting_count log = length (waiting_blocks log)
 
--- the group that waits stands on the device behind its gate, and nothing was appended since
+-- the group that waits stands on the device after its gate, and nothing was appended since
 abbrev pub is_written : Log → Bool
 is_written log = log.written
 
--- the gate behind its groups may be open, and a group stands behind it that no sync has let in
+-- the gate after its groups may be open, and a group stands after it that no sync has let in
 abbrev pub is_ajar : Log → Bool
 is_ajar log = log.ajar
 
@@ -45,7 +45,7 @@ is_ajar log = log.ajar
 abbrev pub groups_end : Log → ℕ
 groups_end log = log.at
 
--- where the group that waits would end with n images more, the closed gate after it among them
+-- where the group that waits would end with `n` images more, the closed gate after it included
 abbrev pub end_with : Log → ℕ → ℕ
 end_with log n = log.at + (6 + 4096 * (waiting_count log + n))
 
@@ -62,7 +62,7 @@ pub record SameLog (old new : Log) : Type 0 where
   pub limits : limits_of new ≡ limits_of old
   pub actions : actions_of new ≡ actions_of old
 
--- refused with Io where the device failed once in this call, and with Stopped on a log that was
+-- refused with Io if the device failed once in this call, and with Stopped on a log that was
 -- stopped; nothing else fails
 abbrev pub IoOrStopped : {T : Type 0} → Result T Fault → Bool → ℕ → ℕ → Type 0
 IoOrStopped result was_stopped old new = MatchResult result (λ _. new ≡ old)
@@ -77,7 +77,8 @@ pub record IsSettled (limits : Format) (start at : ℕ) (groups : List (List Pag
   pub closed : gate ≢ 1
   pub on_disk : OnDisk start (spelled_groups groups ++ gate ∷ []) m
 
--- Its groups stand on the disk. A group stands behind them, and no crash changes that. The gate between may be open or not.
+-- Its groups stand on the disk. A group stands after them, and no crash changes that. The gate between may
+-- be open or not.
 pub record IsAjar (limits : Format) (start at : ℕ) (groups : List (List Page)) (group : List Page) (m : DiskMoment)
     : Type 0 where
   pub good : AreGroups limits groups
@@ -91,8 +92,9 @@ pub record IsAjar (limits : Format) (start at : ℕ) (groups : List (List Page))
 abbrev pub Waits : Log → List Page → Type 0
 Waits log waiting = AreLaid log.limits (waiting_blocks log) log.buffer.items waiting
 
--- A group stands behind a gate that may be open. Its images and those of the groups are the last ones of a part of the actions, which
--- has every one that was forced. Where nothing was appended since, it is all that waits, and a read finds its gate open.
+-- A group stands after a gate that may be open. Its images and those of the groups are the last ones of a
+-- part of the actions, which has every one that was forced. If nothing was appended since, it is all that
+-- waits, and a read finds its gate open.
 pub record MayBeLetIn (log : Log) (m : DiskMoment) (acts : List (List Page)) (forced : ℕ) (groups : List (List Page)) (waiting : List Page)
     : Type 0 where
   pub group : List Page
@@ -103,8 +105,8 @@ pub record MayBeLetIn (log : Log) (m : DiskMoment) (acts : List (List Page)) (fo
   pub same : SameImages (images_of (groups ++ group ∷ [])) (images_of (take part acts))
   pub whole : is_written log ≡ true → (group ≡ waiting) × Has (log_start + log.at) (1 ∷ []) m.seen
 
--- the log keeps these actions, of which the first so many are forced: on the disk stand the last
--- images of these, and the last images of the others wait
+-- the log keeps these actions, of which the first `forced` are forced: on the disk stand the last images of
+-- these, and the last images of the others wait
 pub record LogHolds (log : Log) (m : DiskMoment) (acts : List (List Page)) (forced : ℕ) : Type 0 where
   pub alive : log.stopped ≡ false
   pub groups : List (List Page)
@@ -117,8 +119,8 @@ pub record LogHolds (log : Log) (m : DiskMoment) (acts : List (List Page)) (forc
   pub durable : SameImages (images_of groups) (images_of (take forced acts))
   pub unforced : SameImages waiting (images_of (drop forced acts))
 
--- what replay gives of these bytes, applied in order, is for each block the last image that these
--- actions have of it, and nothing for a block that they don't name
+-- a replay of these bytes gives for each block the last image that these actions have of it, and nothing for
+-- a block that they don't name
 pub record Holds (limits : Format) (image : List ℕ) (acts : List (List Page)) : Type 0 where
   pub groups : List (List Page)
   pub spells : SpellsGroups limits (log_range limits image) groups

@@ -18,7 +18,7 @@ use Rattle.redo_log.specs.declared.log.Replayed.{Replayed}
 abbrev pub bytes_at : List ℕ → ℕ → Option (List ℕ)
 bytes_at log at = if at == 0 then None else Some (slice_range log at (at + 4096))
 
--- of each block the bytes of the last of these images are noted, and none where there is no image
+-- of each block the bytes of the last of these images are noted, and none if there is no image
 -- of it
 pub record AreNoted (limits : Format) (log : List ℕ) (images : List Page) (lasts : List ℕ)
     : Type 0 where
@@ -27,7 +27,7 @@ pub record AreNoted (limits : Format) (log : List ℕ) (images : List Page) (las
   pub each : (block : ℕ)
       → bytes_at log (get_or lasts block 0) ≡ option_map page_bytes (last_image images block)
 
--- so many images stand there, and were noted after any others
+-- `count` images stand there, and were noted after any others
 pub record NotesImages (limits : Format) (log : List ℕ) (at count : ℕ) (old new : List ℕ)
     : Type 0 where
   pub images : List Page
@@ -36,7 +36,7 @@ pub record NotesImages (limits : Format) (log : List ℕ) (at count : ℕ) (old 
   pub noted : (before : List Page) → AreNoted limits log before old
       → AreNoted limits log (before ++ images) new
 
--- a group of so many images stands there, with something after it, and they were noted so
+-- a group of `count` images stands there, with something after it, and they were noted so
 pub record NotesGroup (limits : Format) (log : List ℕ) (at count : ℕ) (old new : List ℕ)
     : Type 0 where
   pub group : List Page
@@ -82,7 +82,7 @@ pub record Replays (limits : Format) (m : DiskMoment) (log : Log) (images : List
 abbrev pub kept_image : Replayed → ℕ → Option (List ℕ)
 kept_image found block = bytes_at found.log.buffer.items (get_or found.lasts.items block 0)
 
--- it kept of each block the bytes of the last of these images, and none where there is no image of
+-- it kept of each block the bytes of the last of these images, and none if there is no image of
 -- it
 pub record HoldsLast (found : Replayed) (images : List Page) : Type 0 where
   pub each : (block : ℕ)
@@ -104,13 +104,13 @@ pub record IsOpened (limits : Format) (log : Log) : Type 0 where
   pub waiting : waiting_count log ≡ 0
   pub alive : is_stopped log ≡ false
 
--- a failed read answers Io, and nothing else fails; the others are a growth that was refused, and
--- damage
+-- a failed read answers Io, and no other call of the device fails; else memory was refused, or the log is
+-- damaged
 abbrev pub ReplayFails : {T : Type 0} → Result T Fault → ℕ → ℕ → Type 0
 ReplayFails result old new = MatchResult result (λ _. new ≡ old)
     (λ e. ((e ≡ Io) × (new ≡ suc old)) ⊎ (((e ≡ NoMemory) ⊎ (e ≡ LogDamaged)) × (new ≡ old)))
 
--- no groups are spelled in the log's range: an open group there is none
+-- the log's range spells no groups: an open group there isn't one of the format
 abbrev pub IsDamaged : Format → DiskMoment → Type 0
 IsDamaged limits m =
     (groups : List (List Page)) → SpellsGroups limits (log_range limits m.seen) groups → ⊥

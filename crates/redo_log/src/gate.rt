@@ -1,4 +1,4 @@
-//! A group is written behind a closed gate and synced. Then its gate is opened, and that is synced.
+//! A group is written after a closed gate and synced. Then its gate is opened, and that is synced.
 
 ghost use Rattle.std.specs.Prelude.{◌⊎◌, ◌≡◌, ◌+◌, ◌*◌, ◌<◌, ◌≤◌, ℕ, suc, [], ◌∷◌, true, false, Err, IsTrue, IfOk, OnOk, OnErr, is_err, length};
 ghost use Rattle.device.specs.Disk.{CountsFailures};
@@ -33,7 +33,7 @@ pub enum Advance {
     Nothing,
     /// The group that waits was written. A sync makes it firm.
     Written,
-    /// Its gate was opened. A sync makes all that waits durable, and `force` tells that.
+    /// The gate of that group was opened. A sync then makes all that waits durable, and `force` answers so.
     Opened,
 }
 
@@ -41,7 +41,7 @@ impl Log {
     ghost use Rattle.redo_log.specs.Kept.{limits_of, is_stopped, is_written, is_ajar, actions_of, waiting_count, waiting_blocks, groups_end, end_with};
     ghost use Rattle.redo_log.specs.Kept.{KeepsActions, ForcesAll, RestartsThroughout, SameLog, ChangesItsRange, IoOrStopped};
 
-    // Closes the gate if it may be open: the group behind it is out of date.
+    // Closes the gate if it may be open: the group after it is out of date.
     fn shut_gate<D: Device>(&mut self, device: &mut D) -> Result<(), Fault>
         requires range { log_end (limits_of self.old) ≤ length (D.trace device.old).now.seen }
         requires alive { is_stopped self.old ≡ false }
@@ -71,7 +71,7 @@ impl Log {
         Ok(())
     }
 
-    // Writes the group that waits behind its gate, which is closed.
+    // Writes the group that waits after its gate, which is closed.
     fn write_body<D: Device>(&mut self, device: &mut D) -> Result<(), Fault>
         requires range { log_end (limits_of self.old) ≤ length (D.trace device.old).now.seen }
         requires alive { is_stopped self.old ≡ false }
@@ -102,8 +102,8 @@ impl Log {
         Ok(())
     }
 
-    // Writes the group that waits behind its gate, which stays closed, if that isn't done. Answers whether it stands there: none
-    // waits else.
+    // Writes the group that waits after its gate, which stays closed, if that isn't done. Answers whether a
+    // group stands there: if not, none waits.
     fn write_group<D: Device>(&mut self, device: &mut D) -> Result<bool, Fault>
         requires range { log_end (limits_of self.old) ≤ length (D.trace device.old).now.seen }
         ensures keeps { OnOk result
@@ -139,8 +139,8 @@ impl Log {
         Ok(true)
     }
 
-    // Syncs the group that was written, and opens its gate, if that isn't done and nothing was appended since. Answers whether
-    // that is so.
+    // Syncs the group that was written, and opens its gate, if that isn't done and nothing was appended
+    // since. Answers whether that is so.
     fn open_gate<D: Device>(&mut self, device: &mut D) -> Result<bool, Fault>
         requires range { log_end (limits_of self.old) ≤ length (D.trace device.old).now.seen }
         ensures keeps { OnOk result
@@ -178,11 +178,12 @@ impl Log {
         Ok(true)
     }
 
-    /// Does the next part of a force but for its last sync, which is `force`'s: it writes the group that waits, or syncs that and
-    /// opens its gate. A sync of the device between two parts makes the next one's fast. What is appended between two parts makes
-    /// the next one write the group again.
+    /// Does the next part of a force, except for its last sync, which `force` makes. A part writes the group
+    /// that waits, or it syncs that group and opens its gate. A sync of the device between two parts makes
+    /// the next one's fast. What is appended between two parts makes the next one write the group again.
     ///
-    /// At `Io` the log is stopped; a stopped log answers `Stopped`.
+    /// Refused with `Io` (2) if a device call fails: the log is stopped then. Refused with `Stopped` (3) on a
+    /// stopped log.
     pub fn advance<D: Device>(&mut self, device: &mut D) -> Result<Advance, Fault>
         requires range { log_end (limits_of self.old) ≤ length (D.trace device.old).now.seen }
         ensures keeps { OnOk result
@@ -249,11 +250,12 @@ impl Log {
         Ok(self.actions)
     }
 
-    /// Makes every action durable that was appended, and answers how many were since the log was
-    /// opened. It writes one image of each block that waits; with none the device isn't called. What `advance` has done of it
-    /// isn't done again.
+    /// Makes every appended action durable, and answers how many were appended since the log was opened. It
+    /// writes one image of each block that waits. If none waits, the device isn't called. What `advance` has
+    /// done of it isn't done again.
     ///
-    /// At `Io` the log is stopped; a stopped log answers `Stopped`.
+    /// Refused with `Io` (2) if a device call fails: the log is stopped then. Refused with `Stopped` (3) on a
+    /// stopped log.
     pub fn force<D: Device>(&mut self, device: &mut D) -> Result<u64, Fault>
         requires range { log_end (limits_of self.old) ≤ length (D.trace device.old).now.seen }
 

@@ -6,7 +6,8 @@ ghost use Rattle.redo_log.specs.Groups.{IsWithin, IsImage, AreImages};
 use index_model::Format;
 use page_codec::{Page, is_page};
 
-/// Whether its block and the number of its items are within these limits, and an index of this format may have its layout.
+/// Whether its block and the number of its items are within these limits, and an index of this format may
+/// have its layout.
 pub(crate) fn is_within(limits: &Format, page: &Page) -> bool
     ensures { IsTrue result ↔ IsWithin limits.now page.now }
 {

@@ -12,7 +12,7 @@ use crate::waiting::Waiting;
 use page_codec::{Page, encode};
 
 /// Lays images one after the other, each in the place of the image of its block, or after those
-/// that wait where none is of its block.
+/// that wait if none is of its block.
 pub(crate) fn lay_images(waiting: &mut Waiting, buffer: &mut [u8], images: &[Page])
     requires inside { AreInside (length waiting.old.places.items) images.now }
     requires room { length (with_blocks waiting.old.blocks.items images.now)

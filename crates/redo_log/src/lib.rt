@@ -1,5 +1,5 @@
-//! A redo log: whole pages, in groups after gates, of which a crash leaves a prefix that has all
-//! that was forced.
+//! A redo log of whole pages, in groups after gates. A crash leaves a prefix of what was appended, which has
+//! all that was forced.
 #![tactic(auto)]
 
 mod gate;

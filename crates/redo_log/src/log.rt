@@ -1,4 +1,4 @@
-//! The log.
+//! The log: it is opened and closed, and takes the images of actions.
 
 ghost use Rattle.std.specs.Prelude.{◌⊎◌, ◌≡◌, ◌≤◌, ◌<◌, ◌+◌, ◌*◌, ◌/◌, ◌^◌, ℕ, suc, true, false, Err, IsTrue, IsErrOf, OnOk, OnErr, IfOk, IfErr, is_err, length, slice_index, vec_capacity};
 ghost use Rattle.std.specs.Bool.{OnTrue, OnFalse};
@@ -25,9 +25,9 @@ pub struct Log {
     pub(crate) at: usize,
     pub(crate) actions: u64,
     pub(crate) stopped: bool,
-    /// The group that waits stands on the device behind its gate, and nothing was appended since.
+    /// The group that waits stands on the device after its gate, and nothing was appended since.
     pub(crate) written: bool,
-    /// That gate may be open, and behind it stands a group that no sync has let in.
+    /// That gate may be open, and after it stands a group that no sync has let in.
     pub(crate) ajar: bool,
     /// The blocks whose images wait, one image for each.
     pub(crate) waiting: Waiting,
@@ -95,11 +95,11 @@ impl Log {
     }
 
     /// Takes the images of one action, which wait for the next `force`: each in the place of the
-    /// image of its block, where one waits. It answers the action's number, counted from 1 since
+    /// image of its block, if one waits. It answers the action's number, counted from 1 since
     /// the log was opened.
     ///
-    /// Refused, with nothing changed: on a stopped log, or where the greatest number was given
-    /// (`Stopped`); where the images of blocks that don't wait don't fit after those that wait
+    /// Refused, with nothing changed: on a stopped log, or if the greatest number was given
+    /// (`Stopped`); if the images of blocks that don't wait don't fit after those that wait
     /// (`LogFull`), which is never so up to `room()` of them.
     pub fn append(&mut self, images: &[Page]) -> Result<u64, Fault>
         requires images { AreImages (limits_of self.old) images.now }
@@ -145,11 +145,12 @@ impl Log {
         ensures restarts { WhatItKeepsRestarts self.now }
     {}
 
-    /// Closes the log, in which no gate is ajar: its groups no longer count, and what waits still waits. Where no group is open
-    /// the device isn't called, since a crash could leave a gate that is written as an open one, in
-    /// front of old bytes.
+    /// Closes the log, in which no gate is ajar: its groups no longer count, and what waits still waits.
+    /// If no group is open the device isn't called, because a crash could leave a gate that is written as an
+    /// open one, in front of old bytes.
     ///
-    /// At `Io` the log is stopped; a stopped log answers `Stopped`.
+    /// Refused with `Io` (2) if a device call fails: the log is stopped then. Refused with `Stopped` (3) on a
+    /// stopped log.
     pub fn reset<D: Device>(&mut self, device: &mut D) -> Result<(), Fault>
         requires range { log_end (limits_of self.old) ≤ length (D.trace device.old).now.seen }
         requires shut { is_ajar self.old ≡ false }
@@ -194,8 +195,8 @@ impl Log {
     /// Opens the log that lies on a device, and keeps of each block the bytes of its last image in the
     /// open groups. It reads the log's range once, and judges each image once.
     ///
-    /// Refused: where the device fails (`Io`), where memory is refused (`NoMemory`), and with
-    /// `LogDamaged` exactly where an open group is none.
+    /// Refused: if the device fails (`Io`), if memory is refused (`NoMemory`), and with
+    /// `LogDamaged` exactly if an open group is none.
     pub fn replay<D: Device>(
         alloc: Global,
         device: &mut D,
@@ -250,7 +251,7 @@ impl Log {
 pub struct Replayed {
     /// Its buffer has the bytes that were read: nothing waits in it as yet.
     pub log: Log,
-    /// For each block where its last image lies in these bytes, 0 for a block without one.
+    /// For each block, where its last image lies in these bytes; 0 for a block without one.
     lasts: Vec<u32>,
     ghost inside: { (k : ℕ) → k < length lasts.items
         → slice_index lasts.items k + 4096 ≤ length log.buffer.items },

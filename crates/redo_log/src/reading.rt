@@ -55,8 +55,8 @@ fn tail(log: &[u8], at: usize) -> &[u8]
     &log[at..]
 }
 
-/// Whether so many images stand there. Each is judged once, and its place is noted as that of the
-/// last one of its block.
+/// Whether `count` images stand there. Each is judged once, and its place is noted as that of the last one of
+/// its block.
 fn note_images(limits: &Format, lasts: &mut [u32], log: &[u8], at: usize, count: usize) -> bool
     requires small { length log.now ≤ 16777216 }
     requires many { length lasts.old ≡ limits.now.pages }

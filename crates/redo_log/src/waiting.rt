@@ -9,7 +9,7 @@ use std::alloc::{AllocError, Global};
 /// The blocks whose images wait, each once. Its room was made with it.
 #[derive(Drop)]
 pub(crate) struct Waiting {
-    /// For each block a place. It waits where the list has it at that place; any other place says
+    /// For each block a place. It waits if the list has it at that place; any other place says
     /// nothing, so that nothing is cleared but the list.
     places: Vec<u32>,
     /// The blocks that wait, in the order of their images.
@@ -22,7 +22,7 @@ pub(crate) struct Waiting {
 }
 
 impl Waiting {
-    /// None wait, of so many pages, and there is room for so many of them, 4,096 at most.
+    /// None of the `pages` pages wait, and there is room for `room` of them, 4,096 at most.
     pub(crate) fn new(alloc: Global, pages: u32, room: u32) -> Result<Waiting, AllocError>
         requires { room ≤ 4096 }
         ensures blocks { IfOk result (λ w. w.blocks.items ≡ []) }
@@ -80,7 +80,7 @@ impl Waiting {
         count
     }
 
-    /// The place of the block's image: where none waits, a new one after the others, and then the
+    /// The place of the block's image: if none waits, a new one after the others, and then the
     /// block waits too.
     pub(crate) fn take(&mut self, block: u32) -> usize
         requires inside { block < length self.old.places.items }

@@ -19,7 +19,7 @@ root_way st start aim clear meta h found =
       on = record { not_below = omega arith; place = r.place; trail = trail_begins_here st start meta.level aim clear r.root h r.place };
     }
 
--- where no page has an incomplete split, the root covers whatever is looked for
+-- if no page has an incomplete split, the root covers whatever is looked for
 pub record StartsStraight (st : State) (aim : Bound → Bool) (meta : Page) : Type 0 where
   pub root : ℕ
   pub names : IsMetaOf meta root meta.level

@@ -228,10 +228,10 @@ ReadyIsCounted after (Ok (Ready count)) = count ≡ length (waiting after)
 ReadyIsCounted after (Ok Done) = Unit {0}
 ReadyIsCounted after (Err fault) = Unit {0}
 
--- A step of a scan. On any pages: nothing but latches and pins is changed, a refused one changes
--- nothing, a stopped log refuses it, as many entries are ready as it says, and while there are any
--- it changes nothing; over a device that keeps its model, one that reads a page leaves less to do. On pages in order: what it does, and why
--- it is refused; where no page has an incomplete split, it goes straight down.
+-- A step of a scan. On any pages: it changes nothing but latches and pins; a refused one changes nothing; a
+-- stopped log refuses it; as many entries are ready as it says, and while there are any it changes nothing.
+-- Over a device that keeps its model, one that reads a page leaves less to do. On pages in order: what it
+-- does, and why it is refused; if no page has an incomplete split, it goes straight down.
 pub record ScanSteps {S : Type 0} (g : Ghosts S) (before after : ScanOp) (old new : S)
     (result : Result ScanStep Fault) : Type 0 where
   pub steps : Continues g.follows old new

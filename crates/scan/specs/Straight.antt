@@ -1,4 +1,4 @@
--- How many steps bring a scan its first entries, where no split is unfinished.
+-- How many steps bring a scan its first entries, if no split is unfinished.
 use Rattle.std.specs.Prelude.{◌≡◌, ℕ, suc, ◌+◌, Result, Ok, Err, List}
 use Rattle.index_model.specs.declared.bound.Bound.{Bound}
 use Rattle.index_model.specs.declared.fault.Fault.{Fault}

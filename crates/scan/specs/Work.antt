@@ -32,8 +32,8 @@ scan_walk_left most Start = walk_length most
 scan_walk_left most (At position) = way_left most position
 scan_walk_left most Last = 0
 
--- what is left to do for a scan, while the pages are as they are and there are at most so many: a
--- leaf brings a walk and 50 entries at most
+-- what is left to do for a scan, while the pages are as they are and there are `most` at most: a leaf brings
+-- a walk and 50 entries at most
 abbrev pub scan_left : ℕ → List Page → ScanOp → ℕ
 scan_left most pages op =
     leaves_left op.frontier pages op.at * (walk_length most + 52) + scan_walk_left most op.at

@@ -34,7 +34,8 @@ pub struct ScanOp {
     pub session: Session,
     pub range: Range,
     pub at: ScanAt,
-    /// The greatest bound read so far: what is given lies beyond what was the frontier before its leaf was read.
+    /// The greatest bound read so far: what is given lies beyond what was the frontier before its leaf was
+    /// read.
     pub frontier: Bound,
     /// The matches of the leaf that was read last.
     pub copied: ArrayVec<Entry, 50>,
@@ -49,7 +50,7 @@ pub struct ScanOp {
 pub enum ScanStep {
     /// There are more steps to make.
     Going,
-    /// So many entries are ready to be given.
+    /// Entries are ready to be given: their number.
     Ready(u32),
     /// All is given.
     Done,
@@ -92,11 +93,11 @@ impl ScanOp {
         Some(entry)
     }
 
-    /// Makes one step. While entries are ready it answers their number and changes nothing. After `Done` and after each
-    /// fault but `Blocked` the call is over, and its store's `end` is due.
+    /// Makes one step. While entries are ready it answers their number and changes nothing. After `Done` and
+    /// after each fault but `Blocked` the call is over, and its store's `end` is due.
     ///
-    /// Refused with `Blocked`, and the same step may be made again; with `Io`, `Stopped`, `NoFrame`; with `PageDamaged`
-    /// on pages that are no tree. A refused step changes nothing.
+    /// Refused with `Blocked` (4), and the same step may be made again; with `Io` (2), `Stopped` (3),
+    /// `NoFrame` (10); with `PageDamaged` (17) on pages that are no tree. A refused step changes nothing.
     pub fn step<S: PageStore>(&mut self, store: &mut S) -> Result<ScanStep, Fault>
         ensures all { ScanSteps S.PageStore self.old self.new store.old store.new result }
         ensures faults { IfErr result (HasCause causes_of_reading_any) }

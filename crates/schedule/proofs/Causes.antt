@@ -22,7 +22,7 @@ use Rattle.schedule.proofs.Imports.{FinishAt, FinishStart, Down, Link, Root, Tar
 use Rattle.schedule.proofs.Imports.{Finishing, Start, At, Holds, is_full_count, is_counted_out, has_dead, block_if, CleanupAt, Look, CleanupStart, CleanupDown, Judge, Unlink, DeadSets, set_at}
 use Rattle.schedule.proofs.Imports.{asked_of, session_of, causes_of_stepped, Op, Insert, Scan, Bulk, Cleanup, other_row_is, Moment, Steps, BlocksCall, IsHeldByAnother, HasNoBlock, MoveFails}
 
--- circumstances of which five may be so, as there are where no step is made
+-- circumstances of which five may be so, as there are if no step is made
 abbrev pub few_circumstances : Bool → Bool → Bool → Bool → Bool → Circumstances
 few_circumstances d s v n b = record nothing_wrong { device_failed = d; is_stopped = s; vacuum_runs = v; no_such_session = n; session_has_a_call = b }
 
@@ -281,7 +281,7 @@ block_few true block = omega arith
 block_few false block = omega arith
 
 module _ {S : Type 0} (g : Ghosts S) (old : Moment S) (new : S) where
-  -- these circumstances, where each is so, are a reason for a step of a call that was asked this
+  -- these circumstances, if each is so, are a reason for a step of a call that was asked this
   record AreReasons (at : Circumstances) (session : ℕ) (ask : Ask) (op : Op) : Type 0 where
     pub growth : at.growth_refused ≡ true → ⊥
     pub device : at.device_failed ≡ true → MoveFails g Steps session ask op old new Io
@@ -330,7 +330,7 @@ module _ {S : Type 0} (g : Ghosts S) (old : Moment S) (new : S) where
   at_end : (count : ℕ) → is_at_end count ≡ true → count ≡ 18446744073709551615
   at_end count h = eqb-true count 18446744073709551615 h
 
-  -- the frames of a step that looks at so many pages
+  -- the frames of a step that looks at `frames` pages, 4 at most
   few_frames : (frames : ℕ) → frames ≤ 4 → nat_lt (g.state old.store).frames (frames + count_apart (pinned_blocks (g.state old.store).table)) ≡ true
       → (g.state old.store).frames < 4 + length (pinned_blocks (g.state old.store).table)
   few_frames frames le h =

@@ -334,14 +334,14 @@ module _ {S : Type 0} (g : Ghosts S) (start : Entry → Bool) (old : Moment S) (
   same_limits : (g.state store).limits ≡ (g.state old.store).limits
   same_limits = ap (λ (st : State). st.limits) state ∙ request_limits (asks_bulk_delete request) session (g.state old.store)
 
-  -- it is a bulk delete or a cleanup exactly where one was asked for
+  -- it is a bulk delete or a cleanup exactly if one was asked for
   vacuum_is : is_vacuum op ≡ asks_vacuum request
   vacuum_is = ap is_vacuum fresh ∙ before_vacuum session request
 
   sweep_is : is_bulk_delete op ≡ asks_bulk_delete request
   sweep_is = ap is_bulk_delete fresh ∙ before_sweep session request
 
-  -- where a bulk delete runs, neither that nor a cleanup begins, and leaves stay
+  -- if a bulk delete runs, neither that nor a cleanup begins, and leaves stay
   stay_for : (u : ℕ) → slot_vacuums (slot_of old.slots u) ≡ true → LeafPagesStay None (g.state old.store) (g.state store)
   stay_for u theirs_runs = by (asks_vacuum request) refl
     where

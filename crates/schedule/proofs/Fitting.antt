@@ -5,7 +5,7 @@ use Rattle.schedule.proofs.Imports.{HasOneCall, SlotRuns, SlotMatches, OneVacuum
 use Rattle.schedule.proofs.Keys.{keyed_now}
 use Rattle.schedule.proofs.Lists.{get_within, same_some}
 
--- where a list has nothing at a place, it is no longer than that
+-- if a list has nothing at a place, it is no longer than that
 pub none_beyond : {X : Type 0} (xs : List X) (i : ℕ) → slice_get xs i ≡ None → length xs ≤ i
 none_beyond [] i h = omega arith
 none_beyond (x ∷ xs) zero h = absurd cc

@@ -1,4 +1,5 @@
--- What an event of one session leaves the others: the frame of a running call's event, of a beginning and of a refusal.
+-- What an event of one session leaves the others: the frame of a running call's event, of a beginning and of
+-- a refusal.
 use Rattle.std.proofs.Common.{◌≡◌, ◌≢◌, ℕ, suc, ◌-◌, ◌<◌, ◌≤◌, Bool, true, false, refl, Option, Some, None, List, ◌++◌, length, slice_get, slice_set, sym, ap, subst, arith, inl, inr, ◌∙◌, length-append}
 use Rattle.index_model.specs.Calls.{Ask, AskInsert, AskScan, AskBulkDelete, AskCleanup, Ending, Running, Added, Finished, Vacuumed, GivenUp, Failed, Call, Meets, MayAct, IsOwned, end_of}
 use Rattle.schedule.proofs.Imports.{unwrap_or, cases_eq, cases_lt, Effect, Add, Remove, Shape, Action, contents_after, is_there_after, Entry, Format, there_before, meets_later, Ghosts, OthersRely}
@@ -125,7 +126,7 @@ module _ {S : Type 0} (g : Ghosts S) (start : Entry → Bool) (old : Moment S) (
   cycle_by : (g.state store).cycle ≡ cycle_after (asked_of old.sets op) slot (g.state old.store).cycle
   cycle_by = subst (λ (x : Ask). (g.state store).cycle ≡ cycle_after x slot (g.state old.store).cycle) runs.runs.ask cycle
 
-  -- where another session runs a bulk delete, this one runs neither that nor a cleanup, and leaves stay
+  -- if another session runs a bulk delete, this one runs neither that nor a cleanup, and leaves stay
   stay_for : (u : ℕ) → u ≢ session → slot_vacuums (slot_of old.slots u) ≡ true → LeafPagesStay effect (g.state old.store) (g.state store)
   stay_for u ne theirs_runs = by (is_vacuum op) refl
     where

@@ -152,7 +152,8 @@ module _ {S : Type 0} (g : Ghosts S) (laws : Laws g) (store : S) (slots : List (
   stops Takes = false
   stops GivesUp = false
 
-  -- a move of a session without a call is refused: a step with `Stopped` on a stopped log, all else with `NoSession`
+  -- a move of a session without a call is refused: a step with `Stopped` on a stopped log, all else with
+  -- `NoSession`
   pub idle_makes : (move : Move) (answer : Answer) → answer ≡ no_call (stops move) → EventEffect g (MovesCall session move) answer (here_with store slots sets) (here_with store slots sets)
   idle_makes Steps answer is = idle_steps (g.backing store).stopped answer is refl
   idle_makes Takes answer is = idle_takes answer is

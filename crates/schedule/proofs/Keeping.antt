@@ -21,7 +21,7 @@ module _ {S : Type 0} (g : Ghosts S) (laws : Laws g) (start : Entry → Bool) wh
       (subst (λ (ps : List Page). ArePagesAfter (g.state new.store).limits.unique start new.history ps) (sym (ap (λ (n : ℕ). g.past new.store n) (sym matches.count) ∙ laws.past_now new.store own))
       (record { contents = matches.contents; tree = matches.order.tree.tree; keyed = keyed_now (g.state new.store) start new.history matches }))
 
-  -- the history is kept where there is none yet
+  -- the history is kept if there is none yet
   pub kept_at_start : (new : Moment S) → new.history ≡ [] → g.own new.store → Matches (g.state new.store) start new.history → KeepsHistory g start new
   kept_at_start new none own matches =
       let empty : length new.history ≡ 0 = ap (λ (l : List Action). length l) none in
@@ -33,7 +33,7 @@ module _ {S : Type 0} (g : Ghosts S) (laws : Laws g) (start : Entry → Bool) wh
       }
 
   module _ (old new : Moment S) (follows : g.follows old.store new.store) where
-    -- what a crash leaves, where the history is kept before and after
+    -- what a crash leaves, if the history is kept before and after
     pub safe : g.own old.store → Matches (g.state new.store) start new.history → KeepsHistory g start new → IsCrashSafe g start old new
     safe own matches keeps = record {
       keeps = keeps;

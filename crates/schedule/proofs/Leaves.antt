@@ -4,7 +4,7 @@ use Rattle.tree_acts.proofs.Lows.{lows_same}
 use Rattle.schedule.proofs.Imports.{Page, State, IsLeafAt, WasLeaf, NoLowRises, OthersRely, PinnedLeafPagesStay}
 use Rattle.scan.specs.Laws.{PinnedLeavesLast}
 
--- where the pages are as they were
+-- if the pages are as they were
 pub leaf_same : (old new : State) → new.pages ≡ old.pages → (block : ℕ) (page : Page) → IsLeafAt old.pages block page → WasLeaf new.pages block
 leaf_same old new same block page at = record { page = page; was = subst (λ (ps : List Page). IsLeafAt ps block page) (sym same) at }
 
@@ -18,6 +18,6 @@ leaves_last session other old new apart stay block pinned leaf = stay other bloc
 pub lows_still : (old new : State) → new.pages ≡ old.pages → NoLowRises old.pages new.pages
 lows_still old new same = subst (NoLowRises old.pages) (sym same) (lows_same old.pages)
 
--- where others may rely, no low rises: there is another session
+-- if others may rely, no low rises: there is another session
 pub lows_relied : (session : ℕ) (old new : State) → OthersRely session old new → NoLowRises old.pages new.pages
 lows_relied session old new others = (others (suc session) (λ same. omega arith)).lows

@@ -339,7 +339,7 @@ flush_makes g laws old new follows slots sets same block flushed alive = record 
       runs_on = tt;
     }
 
--- the cause of a beginning that is refused, where there is the set that it names
+-- the cause of a beginning that is refused, if there is the set that it names
 asked_why : (vacuums : Bool) (b : Bool) (c : Circumstances) (fault : Fault) → b ≡ true
     → HasCause (record c { no_such_session = false; vacuum_runs = vacuums }) fault → HasCause (record c { no_such_session = not b; vacuum_runs = vacuums }) fault
 asked_why vacuums b c fault named h = subst (λ (x : Bool). HasCause (record c { no_such_session = not x; vacuum_runs = vacuums }) fault) (sym named) h
@@ -349,7 +349,8 @@ all_true true true one other = refl
 all_true true false one other = other
 all_true false b one other = one
 
--- where calls begin, and the session has none, a beginning is refused only while a vacuum runs that excludes it
+-- if calls begin, and the session has none, a beginning is refused only while a vacuum runs that excludes
+-- it
 only_excluded : (st : State) (backing : Backing) → no_call_begins st backing ≡ false → (excluded : Bool) (fault : Fault) → HasCause (causes_of_requesting excluded st backing false) fault
     → fault ≡ VacuumRunning
 only_excluded st backing alive excluded VacuumRunning h = refl

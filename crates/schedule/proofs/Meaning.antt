@@ -45,7 +45,7 @@ refused_becomes TooTall count call = refl
 refused_becomes DeviceTooSmall count call = refl
 refused_becomes (KeyExists r) count call = refl
 
--- no action is appended: so many there are then as before
+-- no action is appended: there are as many as before
 same_count : (effect : Option Effect) (count n : ℕ) → effect ≡ None → n ≡ act_count effect + count → count ≡ n
 same_count effect count n none is = let zero_is : act_count effect ≡ 0 = ap act_count none in omega arith
 
@@ -162,7 +162,8 @@ no_session s Fails stopped session fault h =
     one_of_few false s false true false Fails
     (record { device = λ k. absurd (false≢true k); stopped = stopped; vacuum = λ k. absurd (false≢true k); session = λ k. session; busy = λ k. absurd (false≢true k) }) fault h
 
--- what an insert leaves unfinished is never because its entry or its key was there, nor because another session stands in the way
+-- what an insert leaves unfinished is never because its entry or its key was there, nor because another
+-- session stands in the way
 not_there : (at : Circumstances) (fault : Fault) → HasCause (once_added at) fault → HasCause at fault × (fault ≢ Exists) × ((row : Row) → fault ≢ KeyExists row) × ((block : ℕ) → fault ≢ Blocked block)
 not_there at NoMemory h = (h, (λ e. cc), (λ r e. cc), λ b e. cc)
 not_there at Io h = (h, (λ e. cc), (λ r e. cc), λ b e. cc)
@@ -202,7 +203,7 @@ refused_for at Fails fails (Checkpointed k) h = tt
 refused_for at Fails fails (Refused fault) h = fails fault h
 
 module _ {S : Type 0} (g : Ghosts S) (start : Entry → Bool) (old : Moment S) (fits : Fits g start old) (new : Moment S) where
-  -- asking for the next entry is refused where the call is no scan
+  -- asking for the next entry is refused if the call is no scan
   next_fails : (session : ℕ) (ask : Ask) (op : Op) (fault : Fault) → HasCause (causes_of_asked_next ask) fault → MoveFails g Takes session ask op old new.store fault
   next_fails session (AskScan range) op fault h = absurd (no_cause fault h)
   next_fails session (AskInsert e) op fault h = no_session false (MoveFails g Takes session (AskInsert e) op old new.store) (λ k. absurd (false≢true k)) tt fault h

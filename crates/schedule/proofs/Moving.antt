@@ -1,4 +1,5 @@
--- What an event of a session makes, by what its call promises: of a session that runs nothing, and of one that runs a call.
+-- What an event of a session makes, by what its call promises: of a session that runs nothing, and of one
+-- that runs a call.
 use Rattle.std.proofs.Common.{◌≡◌, ℕ, ◌&&◌, Bool, true, false, Option, Result, Ok, Err, List, slice_get, refl, sym, ap, subst, ◌∙◌}
 use Rattle.session_calls.specs.declared.calls.Calls.{Calls}
 use Rattle.session_calls.proofs.Slots.{op_at, found}

@@ -42,7 +42,7 @@ run_more g start told (x ∷ xs) (y ∷ ys) event answer first mid last run dura
 run_more g start told [] (y ∷ ys) event answer first mid last run durable goes = absurd run
 run_more g start told (x ∷ xs) [] event answer first mid last run durable goes = absurd run
 
--- one event, with what a crash leaves, where it follows
+-- one event, with what a crash leaves, if it follows
 pub event_goes : {S : Type 0} (g : Ghosts S) (laws : Laws g) (start : Entry → Bool) (event : Event) (answer : Answer) (old new : Moment S) → Fits g start old
     → EventDoes g start (kind_of event) answer old new → EventIsRun g start event answer old new
 event_goes g laws start event answer old new fits does = record {

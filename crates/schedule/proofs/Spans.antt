@@ -56,7 +56,7 @@ pub none_more : (acts history : List Action) → length (history ++ acts) ≤ le
 none_more [] history le = append-nil history
 none_more (a ∷ acts) history le = absurd (let long : length (history ++ a ∷ acts) ≡ length history + suc (length acts) = length-append history (a ∷ acts) in omega arith)
 
--- where nothing is logged over a run, nothing is by its first event
+-- if nothing is logged over a run, nothing is by its first event
 pub first_quiet : {S : Type 0} (g : Ghosts S) (start : Entry → Bool) (told : List Answer) (event : Event) (events : List Event) (answer : Answer) (answers : List Answer) (first last : Moment S)
     → (run : IsRun g start told (event ∷ events) (answer ∷ answers) first last) → last.history ≡ first.history → run.1.0.history ≡ first.history
 first_quiet g start told event events answer answers first last run same =

@@ -27,7 +27,7 @@ given_work before after (Checkpointed count) h most pages = same_work before aft
 given_work before after (Refused fault) h most pages = same_work before after most pages h.0
 given_work before after (Gave None) h most pages = same_work before after most pages h.0
 
--- where no act is done each step that goes on owes to leave less
+-- if no act is done each step that goes on owes to leave less
 owes : (before : Option Op) (old new : State) → new.acts ≡ old.acts → OwesLess before old new
 owes None old new same = same
 owes (Some (Insert op)) old new same = same
@@ -84,7 +84,7 @@ module _ {S : Type 0} (g : Ghosts S) (start : Entry → Bool) (session : ℕ) (o
   elsewhere : (kind : Kind) (answer : Answer) → EventDoes g start kind answer old new → (of : ℕ) → IsOfSession of kind → session ≢ of → left ≤ was
   elsewhere kind answer does of is apart = kept kind answer does (ap (λ (o : Option (Option Op)). unwrap_or o None) (does.also.always.others of is session apart))
 
-  -- where as many entries are ready as none, all were taken
+  -- if as many entries are ready as none, all were taken
   drained : (slot : Option Op) → ready_count slot ≡ 0 → NothingIsReady slot
   drained None h = tt
   drained (Some op) h = empty (ready_of op) h

@@ -109,7 +109,7 @@ module _ {S : Type 0} (g : Ghosts S) (start : Entry → Bool) where
       told_same (old.history ++ acts_of goes.number goes.effect) (length old.history) goes.effect goes.call goes.after goes.is.running (grown old.history goes.number goes.effect) answer goes.told in
       sym behind.runs.ask ∙ ap (λ (c : Call). c.ask) after_is ∙ kept.ask ∙ ap (λ (c : Call). c.ask) call_is ∙ before.runs.ask
 
-  -- ... so it is a bulk delete only where it was one
+  -- ... so it is a bulk delete only if it was one
   moved_sweep : (session : ℕ) (move : Move) (answer : Answer) (old new : Moment S) → Fits g start old → EventDoes g start (MovesCall session move) answer old new
       → slot_is_bulk_delete (slot_of old.slots session) ≡ false → slot_is_bulk_delete (slot_of new.slots session) ≡ false
   moved_sweep session move answer old new fits does idle = by (slice_get old.slots session) refl
@@ -246,7 +246,7 @@ module _ {S : Type 0} (g : Ghosts S) (start : Entry → Bool) where
     event_keeps (MovesCall session GivesUp) answer does = (tt, gives_up_keep session answer does)
     event_keeps (MaintainsStore upkeep) answer does = (tt, upkeep_keeps upkeep answer does)
 
-    -- where no act is done, pages are as they were
+    -- if no act is done, pages are as they were
     leaf_quiet : (kind : Kind) (answer : Answer) → EventDoes g start kind answer old new → (g.state new.store).acts ≡ (g.state old.store).acts → HasLeaf g block new
     leaf_quiet kind answer does same = leaf_same (g.state old.store) (g.state new.store) (does.also.always.kept.quiet same) block leaf.page leaf.was
 

@@ -63,7 +63,7 @@ unused_fits {S} g store slots sets n is unused = fits_from (record {
     of session None e = record { none = λ number call h. (let f = h.found in absurd cc); idle = unused.idle session }
     of session (Some op) e = absurd cc
 
--- where no bulk delete runs, a moment fits with any sets
+-- if no bulk delete runs, a moment fits with any sets
 module _ {S : Type 0} (g : Ghosts S) (start : Entry → Bool) (now : Moment S) (sets : DeadSets) where
   abbrev then : Moment S
   then = record now { sets = sets }

@@ -25,7 +25,7 @@ set_other slots session other slot apart = ap (λ (o : Option (Option Op)). unwr
 
 -- a test of what sessions run, which an empty slot doesn't pass
 module _ (test : Option Op → Bool) (none_fails : test None ≡ false) where
-  -- a session passes it exactly where some does
+  -- a session passes it exactly if some does
   pub any_true : (slots : List (Option Op)) → list_any test slots ≡ true → (session : ℕ) × (test (slot_of slots session) ≡ true)
   any_true [] h = absurd (true_false (sym h))
   any_true (x ∷ xs) h = by (test x) refl (λ more. any_true xs more)
@@ -39,7 +39,7 @@ module _ (test : Option Op → Bool) (none_fails : test None ≡ false) where
   true_any (x ∷ xs) zero h = subst (λ (c : Bool). (c || list_any test xs) ≡ true) (sym h) refl
   true_any (x ∷ xs) (suc session) h = or_true (test x) (list_any test xs) (true_any xs session h)
 
-  -- where a slot is set that passes it as the one before did, each passes it as before
+  -- if a slot is set that passes it as the one before did, each passes it as before
   set_same : (slots : List (Option Op)) (session : ℕ) (slot : Option Op) → session < length slots → test slot ≡ test (slot_of slots session)
       → (other : ℕ) → test (slot_of (slice_set slots session slot) other) ≡ test (slot_of slots other)
   set_same slots session slot within same other = elim (cases_eq other session) [
@@ -88,7 +88,7 @@ module _ (old : State) (slots : List (Option Op)) (session : ℕ) (within : sess
   pub vacuums_end : (new : State) → runs_bulk_delete new ≡ false → OneVacuums new (slice_set slots session None)
   vacuums_end new cycle = record { alone = λ a b va vb. absurd (none_behind a va); cycle = cycle ∙ sym none_sweeps }
 
--- none runs where none of the slots vacuums
+-- none runs if none of the slots vacuums
 pub none_runs : (slots : List (Option Op)) → one_vacuums slots ≡ false → (session : ℕ) → slot_vacuums (slot_of slots session) ≡ true → ⊥
 none_runs slots idle session vacuums = true_false (sym (true_any slot_vacuums refl slots session vacuums) ∙ idle)
 
@@ -97,7 +97,7 @@ pub none_sweeping : (st : State) (slots : List (Option Op)) → OneVacuums st sl
 none_sweeping st slots h idle = h.cycle ∙ not_true (one_is_bulk_delete slots) (λ one.
     (let some = any_true slot_is_bulk_delete refl slots one in none_runs slots idle some.0 (sweep_vacuums (slot_of slots some.0) some.1)))
 
--- one begins, where none ran
+-- one begins, if none ran
 module _ (old : State) (slots : List (Option Op)) (session : ℕ) (slot : Option Op) (within : session < length slots)
     (vacuums : slot_vacuums slot ≡ true) (idle : one_vacuums slots ≡ false) (h : OneVacuums old slots) where
   only_this : (a : ℕ) → slot_vacuums (slot_of (slice_set slots session slot) a) ≡ true → a ≡ session
@@ -182,7 +182,7 @@ calm_request (ToScan range) h = refl
 calm_request (ToBulk set) h = absurd (true_false h)
 calm_request ToCleanup h = refl
 
--- where the request asks for neither, or none of them runs, it isn't excluded
+-- if the request asks for neither, or none of them runs, it isn't excluded
 pub not_excluded : (asks runs : Bool) → (asks && runs) ≡ false → asks ≡ true → runs ≡ false
 not_excluded true runs h is = h
 not_excluded false runs h is = absurd (true_false (sym is))

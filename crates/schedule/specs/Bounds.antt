@@ -7,7 +7,7 @@ use Rattle.schedule.specs.TheoremMoments.{Moment}
 use Rattle.schedule.specs.TheoremRuns.{Fits}
 use Rattle.session_calls.specs.Slots.{slot_of}
 
--- so many steps at most, and entries to give, while the pages stay as they are
+-- fewer than 2^42 steps, and entries to give, are left while the pages stay as they are
 abbrev pub WorkIsBounded : {S : Type 0} → Ghosts S → Type 0
 WorkIsBounded {S} g =
     (start : Entry → Bool) (now : Moment S) → Fits g start now → (g.state now.store).limits.pages ≤ 65536 → (session : ℕ)

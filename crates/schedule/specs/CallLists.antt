@@ -1,4 +1,5 @@
--- Laws of the list of calls that tells of a moment: one running call a session, and calls that were refused as they began.
+-- Laws of the list of calls that tells of a moment: one running call a session, and calls that were refused
+-- as they began.
 use Rattle.std.specs.Prelude.{◌≡◌, ◌≢◌, ℕ, ◌<◌, Bool, [], ◌∷◌, ◌++◌, length}
 use Rattle.index_model.specs.Calls.{Ask, Failed, Call}
 use Rattle.index_model.specs.Row.{Row}
@@ -15,7 +16,7 @@ use Rattle.schedule.specs.TheoremRuns.{Fits}
 abbrev pub with_one_call : {S : Type 0} → Moment S → Call → Moment S
 with_one_call now call = record now { calls = now.calls ++ call ∷ [] }
 
--- a call that was refused as it began, so many actions being there then
+-- a call that was refused as it began, when there were `count` actions
 abbrev pub refused_call : ℕ → Ask → Fault → ℕ → Call
 refused_call session ask fault count = ended (begun_call session ask count) (Failed fault) count
 
@@ -25,8 +26,8 @@ OneCallRuns {S} g =
     (start : Entry → Bool) (now : Moment S) (session number other : ℕ) (call another : Call) → Fits g start now → IsRunningCall now.calls session number call
     → IsRunningCall now.calls session other another → other ≡ number
 
--- What fits a moment fits with a call more that was refused as it began, in a session that is there. That isn't said of
--- `Exists` and of `KeyExists`, with which no beginning is refused.
+-- What fits a moment fits with a call more that was refused as it began, in a session that is there. That
+-- isn't said of `Exists` and of `KeyExists`, with which no beginning is refused.
 abbrev pub RefusedCallsFit : {S : Type 0} → Ghosts S → Type 0
 RefusedCallsFit {S} g =
     (start : Entry → Bool) (now : Moment S) (session : ℕ) (ask : Ask) (fault : Fault) → Fits g start now → session < length now.slots → fault ≢ Exists

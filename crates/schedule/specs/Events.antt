@@ -1,4 +1,5 @@
--- What an event does beside what it means: what keeps the theorem, and what holds of an event whatever the pages are.
+-- What an event does beside what it means: what keeps the theorem, and what holds of an event whatever the
+-- pages are.
 use Rattle.std.specs.Prelude.{◌≡◌, ◌≢◌, ◌⊎◌, ℕ, suc, ◌≤◌, ◌&&◌, not, Bool, true, false, Option, Some, None, Ok, Err, List, [], ◌∷◌, ◌++◌, length, drop, slice_get, slice_set}
 use Rattle.index_model.specs.Actions.{Effect, Action, contents_after}
 use Rattle.index_model.specs.Calls.{Call}
@@ -47,8 +48,9 @@ abbrev pub AreOf : ℕ → List Event → Type 0
 AreOf session [] = Unit {0}
 AreOf session (event ∷ events) = IsOf session event × AreOf session events
 
--- an event of a session's running call: it appends an action of this effect, or none, which the call was asked for; what is
--- told of it; no other call is changed, and other sessions may rely; and what it does to the shape of the pages
+-- an event of a session's running call: it appends an action of this effect, or none, which the call was
+-- asked for; what is told of it; no other call is changed, and other sessions may rely; and what it does to
+-- the shape of the pages
 pub record CallMoves {S : Type 0} (g : Ghosts S) (start : Entry → Bool) (session : ℕ) (answer : Answer) (old new : Moment S) : Type 0 where
   pub number : ℕ
   pub call : Call
@@ -75,13 +77,13 @@ pub record Stays {S : Type 0} (g : Ghosts S) (answer : Answer) (old new : Moment
   pub refused : answer ≡ Refused fault
   pub still : IsSameState g old new
 
--- what is answered where so many actions are durable; a flush tells no such number
+-- what is answered if `count` actions are durable; a flush tells no such number
 abbrev pub kept_answer : Upkeep → ℕ → Option Answer
 kept_answer Forces count = Some (Forced count)
 kept_answer Flushes count = None
 kept_answer Checkpoints count = Some (Checkpointed count)
 
--- all actions are durable, and so many
+-- all actions are durable, and the answer tells their number
 pub record UpkeepIsDurable {S : Type 0} (g : Ghosts S) (upkeep : Upkeep) (answer : Answer) (old new : Moment S) : Type 0 where
   pub told : kept_answer upkeep (length old.history) ≡ Some answer
   pub durable : (g.backing new.store).durable ≡ length old.history
@@ -97,8 +99,8 @@ pub record UpkeepIsDone {S : Type 0} (g : Ghosts S) (upkeep : Upkeep) (answer : 
   pub tells : UpkeepAnswerMeans g upkeep answer old new
   pub still : IsSameState g old new
 
--- What was done for the store, whatever the pages are: these are as they were; where it is told as done, so many acts were
--- done, and all are durable; a refusal has its cause.
+-- What was done for the store, whatever the pages are: these are as they were; if it is told as done, it
+-- tells how many acts were done, and all are durable; a refusal has its cause.
 pub record StoreIsKept {S : Type 0} (g : Ghosts S) (upkeep : Upkeep) (answer : Answer) (old new : S) : Type 0 where
   pub state_is : g.state new ≡ g.state old
   pub number : (count : ℕ) → kept_answer upkeep count ≡ Some answer → count ≡ (g.state old).acts
@@ -132,13 +134,15 @@ pub record IsNotFlushed {S : Type 0} (g : Ghosts S) (old new : S) : Type 0 where
   pub waiting : (g.backing new).changed ≡ (g.backing old).changed
   pub room : KeepsRoom (g.state old) (g.backing old) (g.backing new)
 
--- a checkpoint that fails leaves the log stopped, or all actions durable; the first of the pages that waited were written, or none
+-- a checkpoint that fails leaves the log stopped, or all actions durable; the first of the pages that waited
+-- were written, or none
 pub record IsNotCheckpointed {S : Type 0} (g : Ghosts S) (old new : S) : Type 0 where
   pub kept : ((g.backing new).stopped ≡ true) ⊎ ((g.backing new).durable ≡ (g.state old).acts)
   pub rest : IsRestOf (g.backing new).changed (g.backing old).changed
   pub room : KeepsRoom (g.state old) (g.backing old) (g.backing new)
 
--- what an event of the store does to the pages that wait to be written and to the log's room, by what it answers
+-- what an event of the store does to the pages that wait to be written and to the log's room, by what it
+-- answers
 abbrev pub UpkeepChanges : {S : Type 0} → Ghosts S → Upkeep → Answer → S → S → Type 0
 UpkeepChanges g Forces (Forced count) old new = IsForced g old new
 UpkeepChanges g Flushes (Flushed block) old new = IsFlushed g block old new
@@ -148,7 +152,8 @@ UpkeepChanges g Flushes (Refused fault) old new = IsNotFlushed g old new
 UpkeepChanges g Checkpoints (Refused fault) old new = IsNotCheckpointed g old new
 UpkeepChanges g upkeep answer old new = ⊥
 
--- what was done for the store is told as it was done, and a refusal of it has its cause; of an event of a call nothing is said
+-- what was done for the store is told as it was done, and a refusal of it has its cause; of an event of a
+-- call nothing is said
 abbrev pub UpkeepIsKept : {S : Type 0} → Ghosts S → Kind → Answer → S → S → Type 0
 UpkeepIsKept g (MaintainsStore upkeep) answer old new = StoreIsKept g upkeep answer old new
 UpkeepIsKept g kind answer old new = Unit {0}
@@ -175,7 +180,7 @@ Happens g start (BeginsCall session request) answer old new = MayBegin g (slice_
 Happens g start (MovesCall session move) answer old new = MovesOn g start (has_call old.slots session) session answer old new
 Happens g start (MaintainsStore upkeep) answer old new = UpkeepIsDone g upkeep answer old new ⊎ Stays g answer old new
 
--- the circumstances where there is no such session, or no call in it
+-- the circumstances if there is no such session, or no call in it
 abbrev pub causes_of_no_call : Bool → Circumstances
 causes_of_no_call is_stopped = record nothing_wrong { is_stopped = is_stopped; no_such_session = true }
 
@@ -243,12 +248,12 @@ abbrev pub EventAnswerMeans : Kind → Bool → State → State → Option Op �
 EventAnswerMeans (MovesCall session Steps) is_stopped old new before after answer = StepAnswerMeans is_stopped old new before after answer
 EventAnswerMeans kind is_stopped old new before after answer = Unit {0}
 
--- where the log failed before, this is refused with Stopped, whatever else is so
+-- if the log failed before, this is refused with Stopped, whatever else is so
 abbrev pub RefusesStopped : Bool → Answer → Type 0
 RefusesStopped is_stopped answer = is_stopped ≡ true → answer ≡ Refused Stopped
 
--- on a stopped log every beginning, step, force, flush and checkpoint is refused with Stopped before all else; the step of an
--- insert whose entry is logged ends as added, with that fault
+-- on a stopped log every beginning, step, force, flush and checkpoint is refused with Stopped before all
+-- else; the step of an insert whose entry is logged ends as added, with that fault
 abbrev pub StopsFirst : Kind → Bool → Answer → List (Option Op) → Type 0
 StopsFirst (BeginsCall session request) is_stopped answer slots = RefusesStopped is_stopped answer
 StopsFirst (MovesCall session Steps) is_stopped answer slots = is_stopped ≡ true → StoppedAnswersFirst (slot_add (slot_of slots session)) answer
@@ -261,7 +266,8 @@ pub record IsSameStore {S : Type 0} (g : Ghosts S) (old new : StoreAndSlots S) :
   pub state_is : g.state new.store ≡ g.state old.store
   pub slots_is : new.slots ≡ old.slots
 
--- a refused event changes nothing, but that a step ends its call, unless it was refused with Blocked or NoSession
+-- a refused event changes nothing, except that a refused step ends its call, unless it was refused with
+-- Blocked or NoSession
 abbrev pub RefusalKeeps : {S : Type 0} → Ghosts S → Kind → Answer → StoreAndSlots S → StoreAndSlots S → Type 0
 RefusalKeeps g (MovesCall session Steps) answer old new =
     RefusalChangesNothing (g.state old.store) (g.state new.store) (slot_of old.slots session) (slot_of new.slots session) answer
@@ -273,16 +279,16 @@ IsLessLeft honest (MovesCall session Steps) answer old new before after = honest
 IsLessLeft honest (MovesCall session Takes) answer old new before after = GivesLess before after answer
 IsLessLeft honest kind answer old new before after = Unit {0}
 
--- after an `End` the session runs nothing, and what its call held is let go; nothing of the log, and no count of calls, is
--- changed
+-- after an `End` the session runs nothing, and what its call held is let go; nothing of the log, and no count
+-- of calls, is changed
 pub record IsEnded {S : Type 0} (g : Ghosts S) (session : ℕ) (old new : StoreAndSlots S) : Type 0 where
   pub over : slot_of new.slots session ≡ None
   pub backing : g.backing new.store ≡ g.backing old.store
   pub begun : (g.state new.store).begun ≡ (g.state old.store).begun
   pub state_is : g.state new.store ≡ after_slot (slot_of old.slots session) (g.state old.store)
 
--- what is so after an event: an end leaves its session nothing to run; asking for the next entry leaves the pages, calls and
--- holdings of the store as they were
+-- what is so after an event: an end leaves its session nothing to run; asking for the next entry leaves the
+-- pages, calls and holdings of the store as they were
 abbrev pub IsLeftByEvent : {S : Type 0} → Ghosts S → Kind → StoreAndSlots S → StoreAndSlots S → Type 0
 IsLeftByEvent g (MovesCall session GivesUp) old new = IsEnded g session old new
 IsLeftByEvent g (MovesCall session Takes) old new = g.state new.store ≡ g.state old.store
@@ -316,8 +322,8 @@ BeginningIsCaused g (BeginsCall session request) answer old =
     IsCaused (causes_of_begun_at g old.store (one_vacuums old.slots) old.sets request (slice_get old.slots session)) answer
 BeginningIsCaused g kind answer old = Unit {0}
 
--- a beginning is refused for the first that stands in its way: no call begins, there is no such session or set, the session has
--- a call; and then, if it asks a vacuum, that one runs
+-- a beginning is refused for the first that stands in its way: no call begins, there is no such session or
+-- set, the session has a call; and then, if it asks a vacuum, that one runs
 pub record IsRefusedInOrder {S : Type 0} (g : Ghosts S) (session : ℕ) (request : Request) (answer : Answer) (old : StoreAndSlots S) : Type 0 where
   pub unfound : (fault : Fault)
       → session_to_begin (no_call_begins (g.state old.store) (g.backing old.store)) (is_of_sets old.sets request) (slice_get old.slots session) session ≡ Err fault
@@ -335,8 +341,8 @@ abbrev pub StartsFresh : Kind → Answer → Option Op → Type 0
 StartsFresh (BeginsCall session request) answer after = answer ≡ Begun → after ≡ Some (op_before session request)
 StartsFresh kind answer after = Unit {0}
 
--- a call that has begun has the count of calls begun before it for its start number, and a bulk delete the next cycle number;
--- nothing else of the store is changed
+-- a call that has begun has the count of calls begun before it for its start number, and a bulk delete the
+-- next cycle number; nothing else of the store is changed
 abbrev pub GetsNumber : Kind → Answer → State → State → Type 0
 GetsNumber (BeginsCall session request) answer old new = answer ≡ Begun → new ≡ after_request (asks_bulk_delete request) session old
 GetsNumber kind answer old new = Unit {0}
@@ -361,11 +367,14 @@ pub record EventAlways {S : Type 0} (g : Ghosts S) (kind : Kind) (answer : Answe
   pub stands : MoveStands kind (slot_of old.slots (session_at kind)) (slot_of new.slots (session_at kind))
   -- what the answer of a step says
   pub tells : EventAnswerMeans kind (g.backing old.store).stopped (g.state old.store) (g.state new.store) (slot_of old.slots (session_at kind)) (slot_of new.slots (session_at kind)) answer
-  -- a refusal changes nothing, but that a step ends its call unless it was refused with Blocked or NoSession
+  -- a refusal changes nothing, except that a refused step ends its call, unless it was refused with Blocked
+  -- or NoSession
   pub refused : RefusalKeeps g kind answer old new
-  -- on a log that has failed, a beginning, a step, a force, a flush and a checkpoint are refused for that before all else
+  -- on a log that has failed, a beginning, a step, a force, a flush and a checkpoint are refused for that
+  -- before all else
   pub stopped : StopsFirst kind (g.backing old.store).stopped answer old.slots
-  -- while no act is done, a step that goes on and an entry that is given leave less to do, over a device that keeps its model
+  -- while no act is done, a step that goes on and an entry that is given leave less to do, over a device that
+  -- keeps its model
   pub less : IsLessLeft (g.backing new.store).honest kind answer (g.state old.store) (g.state new.store) (slot_of old.slots (session_at kind)) (slot_of new.slots (session_at kind))
   -- it does one act at most
   pub kept : DoesOneAct (g.state old.store) (g.state new.store)
@@ -377,14 +386,15 @@ pub record EventAlways {S : Type 0} (g : Ghosts S) (kind : Kind) (answer : Answe
   pub left : IsLeftByEvent g kind old new
   -- a beginning that is refused has its cause
   pub causes : BeginningIsCaused g kind answer old
-  -- ... the first that there is of a log that has failed or a count of calls at its end, no such session or set, a session with a
-  -- call, and another vacuum that runs
+  -- ... the first of these that is so: the log has failed or the count of calls is at its end; there is no
+  -- such session or set; the session has a call; another vacuum runs
   pub order : RefusesInOrder g kind answer old
   -- what has begun is the call that was asked for, before its first step
   pub fresh : StartsFresh kind answer (slot_of new.slots (session_at kind))
   -- ... which has got its start number
   pub numbered : GetsNumber kind answer (g.state old.store) (g.state new.store)
-  -- a force and a checkpoint tell how many actions are durable, and these are; a refusal of them, and of a flush, has its cause
+  -- a force and a checkpoint tell how many actions are durable, and these are; a refusal of them, and of a
+  -- flush, has its cause
   pub upkept : UpkeepIsKept g kind answer old.store new.store
   -- what a force, a flush and a checkpoint do to the pages that wait to be written, and to the log's room
   pub keeps_up : UpkeepMeans g kind answer old.store new.store
@@ -395,15 +405,15 @@ pub record EventAlways {S : Type 0} (g : Ghosts S) (kind : Kind) (answer : Answe
 abbrev pub StaysAsDue : State → State → Option Op → Option Op → Type 0
 StaysAsDue old new before after = (steps : ℕ) → IsDueIn old before steps → IsDueIn new after steps
 
--- what is followed of a running call, from one step to the next: it fits a history; and while no action is logged, no more is left to do
--- than before, whether it was due or not
+-- what is followed of a running call, from one step to the next: it fits a history; and while no action is
+-- logged, no more is left to do than before, whether it was due or not
 pub record StepIsFollowed (sets : DeadSets) (old new : State) (before after : Option Op) (answer : Answer) : Type 0 where
   pub fitted : FittedStepFollows old new before after answer
   pub each : EachStepFollows sets old new before after answer
   pub no_more : NoMoreIsLeft old new before after
 
--- what is followed of a session's call, by its event: a beginning says after how many steps it is due, each step follows on, and asking
--- for the next entry costs no step
+-- what is followed of a session's call, by its event: a beginning says after how many steps it is due, each
+-- step follows on, and asking for the next entry costs no step
 abbrev pub CallIsFollowed : Kind → DeadSets → Answer → State → State → Option Op → Option Op → Type 0
 CallIsFollowed (BeginsCall session request) sets answer old new before after = answer ≡ Begun → HasSteps old new request after
 CallIsFollowed (MovesCall session Steps) sets answer old new before after = StepIsFollowed sets old new before after answer
@@ -417,8 +427,8 @@ KeepsPinnedLeaves kind old new =
     (session block : ℕ) (page : Page) → (IsOfSession session kind → ⊥) → IsLeafAt old.pages block page
     → has_pin (holding_of old.table session).pins block ≡ true → WasLeaf new.pages block
 
--- What an event leaves as it was: the limits and the number of frames; and where it appends no action, the pages. So an event
--- of others that appends no action costs a call that is due no step.
+-- What an event leaves as it was: the limits and the number of frames; and if it appends no action, the
+-- pages. So an event of others that appends no action costs a call that is due no step.
 pub record SameButForActs {S : Type 0} (g : Ghosts S) (kind : Kind) (old new : Moment S) : Type 0 where
   pub limits : (g.state new.store).limits ≡ (g.state old.store).limits
   pub frames : (g.state new.store).frames ≡ (g.state old.store).frames
@@ -432,8 +442,8 @@ pub record GrowsByOne (old new : List Action) : Type 0 where
   pub is : new ≡ old ++ acts
   pub few : length acts ≤ 1
 
--- What an event also leaves, beside what it means. Two of its sentences no other word has: a next and an end append no action (`calm`), and
--- what is durable stays so (`later`).
+-- What an event also leaves, beside what it means. Two of its sentences stand in no other word: a next and an
+-- end append no action (`calm`), and what is durable stays so (`later`).
 pub record EventAlso {S : Type 0} (g : Ghosts S) (start : Entry → Bool) (kind : Kind) (answer : Answer) (old new : Moment S) : Type 0 where
   -- what holds of it whatever the pages are
   pub always : EventAlways g kind answer (here_at old) (here_at new)
@@ -449,7 +459,7 @@ pub record EventAlso {S : Type 0} (g : Ghosts S) (start : Entry → Bool) (kind 
   pub leaves : KeepsPinnedLeaves kind (g.state old.store) (g.state new.store)
   -- no low of a page that isn't deleted rises
   pub lows : NoLowRises (g.state old.store).pages (g.state new.store).pages
-  -- the limits and the number of frames are as they were; so are the pages, where it appends no action
+  -- the limits and the number of frames are as they were; so are the pages, if it appends no action
   pub quiet : SameButForActs g kind old new
   -- a number that it answers as durable is
   pub durable : IsDurable (g.backing new.store).durable answer

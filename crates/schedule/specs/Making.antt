@@ -29,7 +29,8 @@ pub record EventEffect {S : Type 0} (g : Ghosts S) (kind : Kind) (answer : Answe
   pub always : EventAlways g kind answer old new
   pub does : ForEachHistory g old new (EventRuns g old new kind answer)
 
--- events with an answer each, from one moment to another: of each holds what always holds, and each store follows the one before
+-- events with an answer each, from one moment to another: of each holds what always holds, and each store
+-- follows the one before
 abbrev pub EachAlways : {S : Type 0} → Ghosts S → List Event → List Answer → StoreAndSlots S → StoreAndSlots S → Type 0
 EachAlways g [] [] first last = first ≡ last
 EachAlways {S} g (event ∷ events) (answer ∷ answers) first last =

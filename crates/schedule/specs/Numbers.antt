@@ -28,7 +28,8 @@ use Rattle.session_calls.specs.declared.op.Op.TheVariants.{Insert, Scan, Bulk, C
 use Rattle.schedule.specs.TheoremMoments.{Moment}
 use Rattle.schedule.specs.TheoremRuns.{Fits}
 
--- what a page number is kept for: to come to the page of this level that covers what is looked for, or to any that stands on it
+-- what a page number is kept for: to come to the page of this level that covers what is looked for, or to any
+-- that stands on it
 pub data Sought : Type 0 where
   cover_of : (level : ℕ) (aim : Bound → Bool) → Sought
   page_of : (level : ℕ) → Sought
@@ -83,7 +84,8 @@ cleanup_numbers cursor (CleanupDown high position) = leaf_number cursor ∷ numb
 cleanup_numbers cursor (Judge high parent) = leaf_number cursor ∷ record { block = parent; sought = cover_of 1 (bound_aim high) } ∷ []
 cleanup_numbers cursor Unlink = leaf_number cursor ∷ []
 
--- those of what a session runs; the leaf that a scan stands on is one more, and a live leaf still (`scans_stand_on_leaves`)
+-- those of what a session runs; the leaf that a scan stands on is one more, and a live leaf still
+-- (`scans_stand_on_leaves`)
 abbrev pub kept_numbers : Option Op → List KeptNumber
 kept_numbers None = []
 kept_numbers (Some (Insert op)) = insert_numbers op.entry op.at
@@ -102,7 +104,8 @@ abbrev pub IsKeptFor : State → Sought → ℕ → Type 0
 IsKeptFor st (cover_of level aim) page = HasCover st level aim page
 IsKeptFor st (page_of level) page = StandsOnLevel st level page
 
--- right links lead from the first block to the second; neither is one that `fresh` may name, nor is any between them
+-- right links lead from the first block to the second; neither is one that `fresh` may name, nor is any
+-- between them
 pub data LeadsPast (st : State) : ℕ → ℕ → Type 0 where
   there : {d : ℕ} → (IsFresh st d → ⊥) → LeadsPast st d d
   next_page : {b r d : ℕ} → (IsFresh st b → ⊥) → (nodes_of st.pages b).right ≡ Some r → LeadsPast st r d → LeadsPast st b d
@@ -118,8 +121,9 @@ abbrev pub AllLead : State → List KeptNumber → Type 0
 AllLead st [] = Unit {0}
 AllLead st (kept ∷ numbers) = NumberLeads st kept × AllLead st numbers
 
--- At each moment that fits, and so at each of a run, each page number that a running call keeps leads on to its page, past none that
--- `fresh` may name: no page that a call still comes to is used for another one meanwhile.
+-- At each moment that fits, and so at each of a run, each page number that a running call keeps leads on to
+-- its page. It leads past none that `fresh` may name. So a page that a call still comes to isn't reused
+-- meanwhile.
 abbrev pub NumbersLeadOn : {S : Type 0} → Ghosts S → Type 0
 NumbersLeadOn {S} g =
     (start : Entry → Bool) (now : Moment S) → Fits g start now → (session : ℕ) → AllLead (g.state now.store) (kept_numbers (slot_of now.slots session))

@@ -12,14 +12,15 @@ use Rattle.session_calls.specs.Slots.{slot_of}
 use Rattle.schedule.specs.TheoremMoments.{Moment, IsRunningCall}
 use Rattle.schedule.specs.TheoremRuns.{Fits}
 
--- a match that a scan over these moments may give after what it gave: it was there at one of them, and lies beyond all that was given
+-- a match that a scan over these moments may give after what it gave: it was there at one of them, and lies
+-- beyond all that was given
 pub record MayComeNext (start : Entry → Bool) (history : List Action) (range : Range) (began until : ℕ) (given : List Entry) : Type 0 where
   pub entry : Entry
   pub matched : matches range entry ≡ true
   pub was_there : ThereAtSomeMoment start history began until entry
   pub beyond : IsPast (last_or None given) entry
 
--- where a session's scan has an entry ready, another match may come next
+-- if a session's scan has an entry ready, another match may come next
 abbrev pub ReadyMayComeNext : {S : Type 0} → Ghosts S → Type 0
 ReadyMayComeNext {S} g =
     (start : Entry → Bool) (now : Moment S) (session number : ℕ) (call : Call) (range : Range) → Fits g start now → IsRunningCall now.calls session number call

@@ -1,5 +1,5 @@
--- What holds over whole runs: lows that don't rise, calls that come to their answers in time, splits that are finished, and steps that
--- are spent.
+-- What holds over whole runs: lows that don't rise, calls that come to their answers in time, splits that are
+-- finished, and steps that are spent.
 use Rattle.std.specs.Prelude.{◌≡◌, ◌≢◌, ℕ, zero, suc, ◌+◌, ◌≤◌, ◌==◌, if◌then◌else◌, Bool, true, false, Option, Some, List, [], ◌∷◌, ◌++◌}
 use Rattle.index_model.specs.declared.bound.Bound.{Bound}
 use Rattle.index_model.specs.declared.entry.Entry.{Entry}
@@ -41,7 +41,8 @@ IsUnanswered Going = Unit {0}
 IsUnanswered (Refused (Blocked block)) = Unit {0}
 IsUnanswered answer = ⊥
 
--- the session's call still waits for its answer after this event: a step of it goes on or is blocked, and it isn't given up
+-- the session's call still waits for its answer after this event: a step of it goes on or is blocked, and it
+-- isn't given up
 abbrev pub CallIsUnanswered : ℕ → Kind → Answer → Type 0
 CallIsUnanswered session (MovesCall of Steps) answer = of ≡ session → IsUnanswered answer
 CallIsUnanswered session (MovesCall of GivesUp) answer = of ≢ session
@@ -64,17 +65,18 @@ abbrev pub steps_gone : ℕ → List Event → List Answer → ℕ
 steps_gone session (event ∷ events) (answer ∷ answers) = goes_on session (kind_of event) answer + steps_gone session events answers
 steps_gone session events answers = 0
 
--- after a run from the beginning of a session's call on, one step more at least is to be made, and so many are made and to be
--- made in sum
+-- after a run from the beginning of a session's call on, one step more at least is to be made; those that
+-- were made and those that are to be made are `steps` in sum
 pub record IsStillDue {S : Type 0} (g : Ghosts S) (session steps gone : ℕ) (last : Moment S) : Type 0 where
   pub left : ℕ
   pub due : IsDueIn (g.state last.store) (slot_of last.slots session) (suc left)
   pub sum : gone + suc left ≡ steps
 
--- In time: a call begins where no page has an incomplete split and its leaf can serve it, and then no action is logged. Of its steps, blocked ones
--- not counted, fewer than the root's level and a few go on, 2 of a scan, 3 of an insert: the next one after these brings what is
--- awaited (`CountsDown`), entries that are ready, or the entry added and nothing left unfinished, unless the device, the log or the
--- frames hinder it.
+-- In time: a call begins while no page has an incomplete split and its leaf can serve it, and then no action
+-- is logged. Of its steps, blocked ones not counted, fewer than the root's level and a few go on, 2 of a
+-- scan, 3 of an insert: the next one after these brings what is awaited (`CountsDown`), unless the device,
+-- the log or the frames hinder it. Of a scan, entries are ready; of an insert, the entry is added and nothing
+-- is left unfinished.
 abbrev pub CallsComeInTime : {S : Type 0} → Ghosts S → Type 0
 CallsComeInTime {S} g =
     (start : Entry → Bool) (told : List Answer) (event : Event) (events : List Event) (answers : List Answer) (first last : Moment S) (session : ℕ) (request : Request)
@@ -82,7 +84,8 @@ CallsComeInTime {S} g =
     → NoneIsIncomplete (g.state first.store).pages → IsServable (g.state first.store) request → last.history ≡ first.history → CallIsUnansweredAfterAll session events answers
     → IsStillDue g session (root_level (g.state first.store).pages + steps_for request) (steps_gone session events answers) last
 
--- a step after which no split is left unfinished: no fault ends its call, nor stands in the answer of an insert
+-- a step after which no split is left unfinished: no fault ends its call, nor stands in the answer of an
+-- insert
 abbrev pub IsUnfailed : Answer → Type 0
 IsUnfailed (Added action (Some fault)) = ⊥
 IsUnfailed (Refused fault) = ends_call fault ≡ false
@@ -110,9 +113,9 @@ OthersLogNothing g start session told (event ∷ events) (answer ∷ answers) fi
 OthersLogNothing g start session told [] (answer ∷ answers) first last run = ⊥
 OthersLogNothing g start session told (event ∷ events) [] first last run = ⊥
 
--- Over a run in which no other session appends an action, and no call of this one is given up or ended by a fault: where at first only
--- those pages have incomplete splits that the session's insert is to finish, so it is at last. So none has an incomplete split where the session runs
--- nothing then.
+-- Over a run in which no other session appends an action, and no call of this one is given up or ended by a
+-- fault: if at first only those pages have incomplete splits that the session's insert is to finish, the same
+-- holds at last. So no page has an incomplete split if the session runs nothing then.
 abbrev pub SplitsAreFinished : {S : Type 0} → Ghosts S → Type 0
 SplitsAreFinished {S} g =
     (start : Entry → Bool) (told : List Answer) (events : List Event) (answers : List Answer) (first last : Moment S) (run : IsRun g start told events answers first last) (session : ℕ)
@@ -130,13 +133,14 @@ abbrev pub NoneBegins : ℕ → List Event → List Answer → Type 0
 NoneBegins session (event ∷ events) (answer ∷ answers) = BeginsNone session (kind_of event) answer × NoneBegins session events answers
 NoneBegins session events answers = Unit {0}
 
--- an event is a step of the session that goes on, or that tells of entries ready where so many, none, were before: 1, else 0
+-- 1 for a step of the session that goes on, or that tells of entries ready while none was ready before; else
+-- 0
 abbrev pub spends : ℕ → Kind → Answer → ℕ → ℕ
 spends session (MovesCall of Steps) Going ready = if of == session then 1 else 0
 spends session (MovesCall of Steps) (Ready count) zero = if of == session then 1 else 0
 spends session kind answer ready = 0
 
--- how many of the session's steps in a run go on, or tell of entries ready where all that were had been taken
+-- how many of the session's steps in a run go on, or tell of entries ready after all that were had been taken
 abbrev pub steps_spent : {S : Type 0} (g : Ghosts S) (start : Entry → Bool) (session : ℕ) (told : List Answer) (events : List Event) (answers : List Answer) (first last : Moment S)
     → IsRun g start told events answers first last → ℕ
 steps_spent g start session told [] answers first last run = 0
@@ -144,9 +148,9 @@ steps_spent g start session told (event ∷ events) (answer ∷ answers) first l
     spends session (kind_of event) answer (ready_count (slot_of first.slots session)) + steps_spent g start session (told ++ answer ∷ []) events answers run.1.0 last run.1.2
 steps_spent g start session told (event ∷ events) [] first last run = 0
 
--- Over a run in which no action is logged, over a device that keeps its model, each step of the session's call that goes on, or that tells of
--- entries ready where all that were had been taken, is one of those that were left to do for it: fewer than 2^42 at each moment
--- (`work_is_bounded`).
+-- Take a run in which no action is logged, over a device that keeps its model. Each step of the session's
+-- call that goes on is one of those that were left to do for it. So is each that tells of entries ready after
+-- all that were ready had been taken. Fewer than 2^42 are left at each moment (`work_is_bounded`).
 abbrev pub WorkIsSpent : {S : Type 0} → Ghosts S → Type 0
 WorkIsSpent {S} g =
     (start : Entry → Bool) (told : List Answer) (events : List Event) (answers : List Answer) (first last : Moment S) → Fits g start first → (run : IsRun g start told events answers first last)

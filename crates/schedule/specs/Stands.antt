@@ -68,17 +68,17 @@ abbrev pub ScansStandOnLeaves : {S : Type 0} → Ghosts S → Type 0
 ScansStandOnLeaves {S} g =
     (start : Entry → Bool) (now : Moment S) (session block : ℕ) → Fits g start now → StandsOn session block now → HasLeaf g block now
 
--- In a run at whose beginning and before each event of which a scan stands on a leaf: where no bulk delete has come to it at
--- first, none has at last, none finishes, and it is a live leaf still.
+-- In a run at whose beginning and before each event of which a scan stands on a leaf: if no bulk delete
+-- has come to it at first, none has at last, none finishes, and it is a live leaf still.
 abbrev pub BulkDeletesWait : {S : Type 0} → Ghosts S → Type 0
 BulkDeletesWait {S} g =
     (start : Entry → Bool) (told : List Answer) (events : List Event) (answers : List Answer) (first last : Moment S) → Fits g start first
     → (run : IsRun g start told events answers first last) → (session block : ℕ) → BeforeEach g start (StandsOn session block) told events answers first last run
     → StandsOn session block first → NoneHasCome block first → NoneFinishes g start told events answers first last run × NoneHasCome block last × HasLeaf g block last
 
--- A bulk delete that begins while another session's scan stands on a leaf doesn't finish while it stands there: in a run that
--- begins with this beginning, and before each event of which the scan stands on the leaf, no bulk delete finishes, none has
--- come to the leaf at last, and it is a live leaf still.
+-- A bulk delete that begins while another session's scan stands on a leaf doesn't finish while it stands
+-- there. Take a run that begins with this beginning, and before each event of which the scan stands on the
+-- leaf. In it no bulk delete finishes; none has come to the leaf at last, and it is a live leaf still.
 abbrev pub BegunBulkDeletesWait : {S : Type 0} → Ghosts S → Type 0
 BegunBulkDeletesWait {S} g =
     (start : Entry → Bool) (told : List Answer) (vacuumer set : ℕ) (events : List Event) (answers : List Answer) (first last : Moment S) → Fits g start first

@@ -15,14 +15,15 @@ pub record ArePagesAfter (unique : Bool) (start : Entry → Bool) (history : Lis
   pub tree : IsTree pages
   pub keyed : unique ≡ true → AreKeyed pages
 
--- nobody else wrote to the store's device; the pages after each prefix of its acts are those after that part of the
--- history; and no more acts are durable than the history has actions
+-- nobody else wrote to the store's device; the pages after each prefix of its acts are those after that part
+-- of the history; and no more acts are durable than the history has actions
 pub record KeepsHistory {S : Type 0} (g : Ghosts S) (start : Entry → Bool) (now : Moment S) : Type 0 where
   pub own : g.own now.store
   pub parts : (part : ℕ) → part ≤ length now.history → ArePagesAfter (g.state now.store).limits.unique start (take part now.history) (g.past now.store part)
   pub durable : (g.backing now.store).durable ≤ length now.history
 
--- these bytes restart to pages whose contents are those after a prefix of the history, of at least so many actions
+-- these bytes restart to pages whose contents are those after a prefix of the history, of at least `least`
+-- actions
 pub record RestartsToPrefix {S : Type 0} (g : Ghosts S) (start : Entry → Bool) (least : ℕ) (now : Moment S) (image : List ℕ) : Type 0 where
   pub part : ℕ
   pub from : least ≤ part
@@ -31,8 +32,8 @@ pub record RestartsToPrefix {S : Type 0} (g : Ghosts S) (start : Entry → Bool)
   pub restarts : g.restarts now.store image pages
   pub are : ArePagesAfter (g.state now.store).limits.unique start (take part now.history) pages
 
--- the history is kept still; and whatever a crash at some moment in between left restarts to a prefix of it, with all
--- the actions that were durable at the beginning
+-- the history is kept still; and whatever a crash at some moment in between left restarts to a prefix of it,
+-- with all the actions that were durable at the beginning
 pub record IsCrashSafe {S : Type 0} (g : Ghosts S) (start : Entry → Bool) (old new : Moment S) : Type 0 where
   pub keeps : KeepsHistory g start new
   pub restarts : (image : List ℕ) → g.leaves old.store new.store image

@@ -1,4 +1,5 @@
--- The theorem's words: one moment of a store with its sessions, and when a history and a list of calls explain it.
+-- The theorem's words: one moment of a store with its sessions, and when a history and a list of calls
+-- explain it.
 use Rattle.std.specs.Prelude.{◌≡◌, ℕ, ◌<◌, Bool, true, Option, Some, List, length, slice_get}
 use Rattle.index_model.specs.Actions.{Action, contents_after, is_there_after, KeysDiffer}
 use Rattle.index_model.specs.Calls.{Running, Call, Meets, ActionsAreOwned}
@@ -16,7 +17,8 @@ pub record StoreAndSlots (S : Type 0) : Type 0 where
   pub slots : List (Option Op)
   pub sets : DeadSets
 
--- one moment: a store with its slots and sets, and the history of actions and the list of calls that tell of it
+-- one moment: a store with its slots and sets, and the history of actions and the list of calls that tell of
+-- it
 pub record Moment (S : Type 0) : Type 0 where
   pub store : S
   pub slots : List (Option Op)
@@ -24,7 +26,7 @@ pub record Moment (S : Type 0) : Type 0 where
   pub history : List Action
   pub calls : List Call
 
--- the moment of this store with its slots and sets, told by this history and these calls
+-- the moment of this store with its slots and sets, this history and these calls
 abbrev pub snapshot_of : {S : Type 0} → StoreAndSlots S → List Action → List Call → Moment S
 snapshot_of here history calls = record { store = here.store; slots = here.slots; sets = here.sets; history = history; calls = calls }
 
@@ -45,7 +47,7 @@ pub record HasOneCall (calls : List Call) (session : ℕ) : Type 0 where
   pub is : IsRunningCall calls session number call
   pub only : (other : ℕ) (c : Call) → IsRunningCall calls session other c → other ≡ number
 
--- the history and the calls explain the moment: from these contents at the start
+-- the history and the calls explain the moment, from these contents at the start
 pub record Explains {S : Type 0} (g : Ghosts S) (start : Entry → Bool) (now : Moment S) : Type 0 where
   -- the contents of the pages are those after the history
   pub contents : (e : Entry) → entry_on_live_leaf (g.state now.store).pages e ≡ contents_after start now.history e

@@ -30,7 +30,8 @@ pub record IsHeldByAnother (table : Table) (session : ℕ) (ask : Ask) (block : 
   pub held : slice_get table other ≡ Some holding
   pub stands : BlocksCall ask holding block
 
--- no block is unused, and the page of each deleted one may still be come to by a running call, which began before it was deleted
+-- no block is unused; to each deleted page a running call may still come, which began before the page was
+-- deleted
 pub record HasNoBlock (st : State) : Type 0 where
   pub used : st.limits.pages ≤ length st.pages
   pub kept : (block : ℕ) → (nodes_of st.pages block).state ≡ Deleted
@@ -43,11 +44,12 @@ HasFullCount (Scan op) = ⊥
 HasFullCount (Bulk set op) = (18446744073709551565 < op.left) ⊎ (18446744073709551565 < op.removed)
 HasFullCount (Cleanup op) = (18446744073709551565 < op.left) ⊎ (op.cursor ≡ 4294967295) ⊎ (op.deleted ≡ 4294967295)
 
--- Why a call that was asked this is refused at a move, or leaves a split unfinished. At a step: a device call failed in it; the log
--- failed before, or a count is at its end; another session stands in the way; the entry is there, or on a unique index another of
--- its key, whose row the fault names; no block can be had; no more than four images, the most that a step writes, are promised, and
--- the log has no room for four; four pages, the most that it looks at, may be more than the frames that are not pinned; the root is
--- on level 31. Asking for the next entry: the call is no scan.
+-- Why a call that was asked this is refused at a move, or leaves a split unfinished. At a step: a device call
+-- failed in it; the log failed before, or a count is at its end; another session stands in the way; the entry
+-- is there, or on a unique index another of its key, whose row the fault names; no block can be had; no more
+-- than four images, the most that a step writes, are promised, and the log has no room for four; four pages,
+-- the most that it looks at, may be more than the frames that are not pinned; the root is on level 31. Asking
+-- for the next entry: the call is no scan.
 abbrev pub MoveFails : {S : Type 0} → Ghosts S → Move → ℕ → Ask → Op → Moment S → S → Fault → Type 0
 MoveFails g Steps session ask op old new Io = (g.backing old.store).failures < (g.backing new).failures
 MoveFails g Steps session ask op old new Stopped =
@@ -72,10 +74,10 @@ Vacuums (AskScan range) = ⊥
 Vacuums (AskBulkDelete dead) = Unit {0}
 Vacuums AskCleanup = Unit {0}
 
--- Why another event is refused. A beginning: the log failed before, or a count is at its end; there is no such session, or no such
--- set; the session runs a call; a bulk delete or a cleanup runs. A move of a session that runs nothing: that, or the log failed before.
--- What is done for the store: a device call failed in it, or the log
--- failed before.
+-- Why another event is refused. A beginning: the log failed before, or a count is at its end; there is no
+-- such session, or no such set; the session runs a call; a bulk delete or a cleanup runs. A move of a session
+-- that runs nothing: that, or the log failed before. What is done for the store: a device call failed in it,
+-- or the log failed before.
 abbrev pub EventFails : {S : Type 0} → Ghosts S → Kind → Moment S → S → Fault → Type 0
 EventFails g (BeginsCall session request) old new Stopped =
     ((g.backing old.store).stopped ≡ true) ⊎ ((g.state old.store).begun ≡ 18446744073709551615)

@@ -1,4 +1,4 @@
-//! Any list of events of many sessions over one store of pages.
+//! The events of many sessions over one store of pages, in any order, and what they promise.
 #![tactic(auto)]
 
 mod event;

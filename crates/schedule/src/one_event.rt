@@ -17,10 +17,10 @@ use index_model::{DeadRows, Fault};
 use page_action::PageStore;
 use session_calls::{Answer, Calls, Request};
 
-/// Does one event on a store with the calls of its sessions, and answers what the event gave, a refusal among the answers.
-/// Where several refusals apply, the first of `Stopped` (3), `NoSession` (12), `SessionBusy` (13) and `VacuumRunning` (11) is
-/// answered; a count of calls at its end is refused with `Stopped` too. The sets of dead rows are those that calls name by
-/// their places, the same at each event.
+/// Does one event on a store with the calls of its sessions, and answers what the event gave, a refusal among
+/// the answers. If several refusals apply, the first of `Stopped` (3), `NoSession` (12), `SessionBusy`
+/// (13) and `VacuumRunning` (11) is answered; a count of calls at its end is refused with `Stopped` too. The
+/// sets of dead rows are those that calls name by their places, the same at each event.
 pub fn one<S: PageStore, T: DeadRows>(
     store: &mut S,
     calls: &mut Calls,
@@ -48,8 +48,9 @@ pub fn one<S: PageStore, T: DeadRows>(
     }
 }
 
-/// Begins a call of a session, as `one` does for the event that asks for it, and as quickly as can be. Refused with the first of
-/// these that applies: `Stopped` (3), `NoSession` (12), `SessionBusy` (13) and `VacuumRunning` (11). Nothing is changed then.
+/// Begins a call of a session, as `one` does for the event that asks for it, and as quickly as can be.
+/// Refused with the first of these that applies: `Stopped` (3), `NoSession` (12), `SessionBusy` (13) and
+/// `VacuumRunning` (11). Nothing is changed then.
 pub fn begin<S: PageStore, T: DeadRows>(
     store: &mut S,
     calls: &mut Calls,
@@ -65,9 +66,10 @@ pub fn begin<S: PageStore, T: DeadRows>(
     calls.begin(store, sets, session, request)
 }
 
-/// Makes one step of a session's call, as `one` does for the event `Step`, and as quickly as can be. Refused with `NoSession`
-/// (12), or `Stopped` (3), where it has none; else as the step of an insert, a scan, a bulk delete or a cleanup is. A refused
-/// step changes nothing, but that the call is over, unless it was refused with `Blocked` (4) or `NoSession`.
+/// Makes one step of a session's call, as `one` does for the event `Step`, and as quickly as can be. Refused
+/// with `NoSession` (12), or `Stopped` (3), if it has none; else as the step of an insert, a scan, a bulk
+/// delete or a cleanup is. A refused step ends the call, unless it was refused with `Blocked` (4) or
+/// `NoSession`. It changes nothing else.
 pub fn step<S: PageStore, T: DeadRows>(
     store: &mut S,
     calls: &mut Calls,
@@ -82,8 +84,8 @@ pub fn step<S: PageStore, T: DeadRows>(
     calls.step(store, sets, session)
 }
 
-/// Takes the next entry that a session's scan has ready, as `one` does for the event `Next`, and as quickly as can be. Refused
-/// with `NoSession` (12) where it runs none: nothing is changed then.
+/// Takes the next entry that a session's scan has ready, as `one` does for the event `Next`, and as quickly
+/// as can be. Refused with `NoSession` (12) if it runs none: nothing is changed then.
 pub fn next<S: PageStore, T: DeadRows>(
     store: &mut S,
     calls: &mut Calls,
@@ -98,8 +100,8 @@ pub fn next<S: PageStore, T: DeadRows>(
     calls.next(session)
 }
 
-/// Does these events one after the other, each as `one` does, and puts an answer for each after the answers that are
-/// there. Refused with `NoMemory` (1) where there is no room for the answers: nothing is done then.
+/// Does these events one after the other, each as `one` does, and puts an answer for each after the answers
+/// that are there. Refused with `NoMemory` (1) if there is no room for the answers: nothing is done then.
 pub fn run<S: PageStore, T: DeadRows>(
     store: &mut S,
     calls: &mut Calls,
@@ -139,8 +141,8 @@ pub fn run<S: PageStore, T: DeadRows>(
     Ok(())
 }
 
-/// Makes all actions durable, as the event `Force` does, and answers `Forced` with their number. Refused with `Stopped` (3)
-/// and `Io` (2).
+/// Makes all actions durable, as the event `Force` does, and answers `Forced` with their number. Refused with
+/// `Stopped` (3) and `Io` (2).
 pub fn force<S: PageStore>(store: &mut S) -> Answer
     ensures steps { Continues S.follows store.old store.new }
     ensures makes { (slots : List (Option Op)) (sets : DeadSets)
@@ -155,8 +157,9 @@ pub fn force<S: PageStore>(store: &mut S) -> Answer
     }
 }
 
-/// Makes all actions durable, writes each changed page to its place and closes the log, as the event `Checkpoint` does, and
-/// answers `Checkpointed` with the number of actions. Refused with `Stopped` (3) and `Io` (2).
+/// Makes all actions durable, writes each changed page to its place and closes the log, as the event
+/// `Checkpoint` does, and answers `Checkpointed` with the number of actions. Refused with `Stopped` (3) and
+/// `Io` (2).
 pub fn checkpoint<S: PageStore>(store: &mut S) -> Answer
     ensures steps { Continues S.follows store.old store.new }
     ensures makes { (slots : List (Option Op)) (sets : DeadSets)

@@ -221,7 +221,7 @@ few_from most pages session (ToScan range) low few = scan_bounded most pages ses
 few_from most pages session (ToBulk set) low few = (let k = bulk_few most (length pages) 1 None low few in omega arith)
 few_from most pages session ToCleanup low few = cleanup_few most (length pages) 1 low few
 
--- a request that its leaf can serve is due after so many steps
+-- a request that its leaf can serve is due after a few steps more than the root's level
 due_from : (old : State) (session : ℕ) (request : Request) → NoneIsIncomplete old.pages → IsServable old request
     → IsDueIn old (Some (op_before session request)) (root_level old.pages + steps_for request)
 due_from old session (ToInsert e) whole servable = record { steps_are = refl; whole = whole; position = tt; absent = servable.0; key_absent = servable.1; room = servable.2 }

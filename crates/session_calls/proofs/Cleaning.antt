@@ -24,7 +24,7 @@ none_added action old new (Some (Add e)) h = absurd h
 none_added action old new (Some (Remove es)) h = absurd h
 none_added action old new (Some Shape) h = refl
 
--- what it has cleaned, where it is refused
+-- what it has cleaned, if it is refused
 pub cleaned_still : (sets : DeadSets) (st : State) (op : CleanupOp) (fault : Fault) → IsCleaned st op → SlotIsCounted sets st (slot_after (Refused fault) (Cleanup op))
 cleaned_still sets st op fault h = by (ends_call fault)
   where

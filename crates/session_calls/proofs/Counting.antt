@@ -83,7 +83,7 @@ not_logged st e (Coming (InsertReads w)) added position h = h
 not_logged st e (Coming (Holding block)) added position h = h
 not_logged st e (Finishing op) added position h = absurd position
 
--- so a step on that way does no act, where no page has an incomplete split
+-- so a step on that way does no act, if no page has an incomplete split
 quiet_on_way : (old new : State) (e : Entry) (was now : Option ℕ) (effect : Option Effect) → HasEffect effect old new → MovesFlags effect old new
     → IsNoted effect old.acts e was now → now ≡ None → NoneIsIncomplete old.pages → new.pages ≡ old.pages
 quiet_on_way old new e was now None changes flags noted none whole = ap (λ (st : State). st.pages) changes

@@ -211,7 +211,7 @@ stopped_flags old new (Some (Remove es)) h = h
 stopped_flags old new (Some Shape) h =
     record { cleared = h.cleared; was = h.was; raised = h.raised; higher = stopped_raised old new (suc (level_in new h.cleared)) h.raised h.higher; moves = h.moves; less = h.less }
 
--- what holds where a call has ended, be it a bulk delete or not
+-- what holds after a call has ended, be it a bulk delete or not
 pub go_matches : (v : Bool) (st : State) (session : ℕ) (start : Entry → Bool) (history : List Action) → session < 64 → Matches st start history → Matches (let_go v session st) start history
 go_matches false st session start history low m = ended_matches st session start history low m
 go_matches true st session start history low m =

@@ -13,7 +13,8 @@ use Rattle.session_calls.proofs.Meeting.{grown, began_before, meets_noted, meets
 pub scans_insert_none : (range : Range) (e : Entry) → AskScan range ≡ AskInsert e → ⊥
 scans_insert_none range e asks = cc
 
--- a step of an operation is an event of its session; where its answer is the last, what the session held is let go
+-- a step of an operation is an event of its session; if its answer is the last, what the session held is
+-- let go
 module _ {sets : DeadSets} (at : Circumstances) (old mid new : State) (start : Entry → Bool) (history : List Action) (number : ℕ) (call : Call) (before op : Op) (answer : Answer)
     (ask : call.ask ≡ asked_of sets before) (matches : Matches old start history) (low : call.session < 64) (goes : OpEvent at old mid sets start history number call op answer) where
   mid_matches : Matches mid start (history ++ acts_of number goes.effect)

@@ -10,8 +10,8 @@ use Rattle.session_calls.proofs.Meeting.{other_row_is}
 not_so : {b : Bool} → b ≡ false → b ≡ true → ⊥
 not_so is h = cc
 
--- an insert that is due is refused neither for what is on its leaf, nor for the want of a block, nor for a root that can't
--- be split
+-- an insert that is due is refused neither for what is on its leaf, nor for the want of a block, nor for a
+-- root that can't be split
 pub insert_hindered : (old new : State) (first second : Backing) (before after : InsertOp) (left : ℕ) (fault : Fault) → IsInOrder old → InsertInvariant old before → InsertIsDue old before (suc left)
     → InsertStays old new before after → HasCause (causes_of_inserting old first second before.session before.entry before.at) fault
     → IsHindered old new (slot_after (Refused fault) (Insert after)) (suc left) fault

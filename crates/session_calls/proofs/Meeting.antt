@@ -97,7 +97,7 @@ module _ (start : Entry → Bool) (history : List Action) (number : ℕ) (call :
         right = subst (λ (a : Ask). AnswersRight start history number call.began (length history) a call.given call.added (EndsAdded action unfinished)) (sym ask) answer;
       }
 
--- where another row of a key is there, the index is unique, the row is another, and its entry is there
+-- if another row of a key is there, the index is unique, the row is another, and its entry is there
 pub other_row_is : (st : State) (e : Entry) (r : Row) → other_row_is_there st e r ≡ true
     → (st.limits.unique ≡ true) × (r ≢ e.row) × (entry_on_live_leaf st.pages (with_row e r) ≡ true)
 other_row_is st e r h =

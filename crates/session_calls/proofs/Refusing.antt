@@ -69,7 +69,7 @@ pub insert_told_logged : (added : Option ℕ) (fault : Fault) → IsRefusedRight
 insert_told_logged None fault h = tt
 insert_told_logged (Some action) fault h = h
 
--- what refuses a step of a bulk delete, where the set that it names is there
+-- what refuses a step of a bulk delete, if the set that it names is there
 pub bulk_cause : (fault : Fault) → HasCause causes_of_writing_any fault → HasCause (record causes_of_writing_any { no_such_session = true }) fault
 bulk_cause NoSession h = refl
 bulk_cause fault h = h

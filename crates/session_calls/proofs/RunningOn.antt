@@ -39,6 +39,6 @@ vacuum_kind (Scan op) = refl
 vacuum_kind (Bulk set op) = refl
 vacuum_kind (Cleanup op) = refl
 
--- what runs on is a bulk delete or a cleanup exactly where it was one
+-- what runs on is a bulk delete or a cleanup exactly if it was one
 pub stays_vacuum : (before op : Op) → call_kind op ≡ call_kind before → is_vacuum op ≡ is_vacuum before
 stays_vacuum before op same = vacuum_kind op ∙ ap kind_vacuums same ∙ sym (vacuum_kind before)

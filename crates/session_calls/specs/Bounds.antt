@@ -6,7 +6,7 @@ use Rattle.session_calls.specs.Ops.{OpInvariant}
 use Rattle.session_calls.specs.Sessions.{work_in}
 use Rattle.session_calls.specs.declared.op.Op.{Op}
 
--- so many steps at most, and entries to give, while the pages stay as they are
+-- fewer than 2^42 steps, and entries to give, are left while the pages stay as they are
 abbrev pub CallsAreBounded : Type 0
 CallsAreBounded =
     (st : State) (op : Op) → IsInOrder st → st.limits.pages ≤ 65536 → OpInvariant st op

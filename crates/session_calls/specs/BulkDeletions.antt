@@ -13,14 +13,15 @@ use Rattle.session_calls.specs.Ops.{runs_bulk_delete}
 use Rattle.session_calls.specs.declared.op.Op.{Op}
 use Rattle.session_calls.specs.declared.op.Op.TheVariants.{Insert, Scan, Bulk, Cleanup}
 
--- an entry is due to be removed: its row is in the set, it was there when the call began, and no action since then adds it
+-- an entry is due to be removed: its row is in the set, it was there when the call began, and no action since
+-- then adds it
 pub record IsDue (dead : Row → Bool) (start : Entry → Bool) (history : List Action) (began : ℕ) (e : Entry) : Type 0 where
   pub row : dead e.row ≡ true
   pub was_there : is_there_after start history began e ≡ true
   pub not_added : IsAddedIn (drop began history) e → ⊥
 
--- A bulk delete that runs as the call of this number: the store has its cycle number; whatever is due is to come still; and
--- what it has counted as removed are the entries of its Removes.
+-- A bulk delete that runs as the call of this number: the store has its cycle number; whatever is due is to
+-- come still; and what it has counted as removed are the entries of its Removes.
 pub record IsBulkDeleteSoFar (st : State) (dead : Row → Bool) (start : Entry → Bool) (history : List Action) (number began : ℕ) (op : BulkDeleteOp) : Type 0 where
   pub runs : runs_bulk_delete st ≡ true
   pub to_come : (due : Entry → Bool) → ((e : Entry) → due e ≡ true → IsDue dead start history began e) → DueIsToCome due st op.cursor op.backtrack

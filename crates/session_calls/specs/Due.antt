@@ -27,8 +27,8 @@ abbrev pub IsKeyAbsent : State → Entry → Type 0
 IsKeyAbsent st e =
     st.limits.unique ≡ true → (r : Row) → entry_on_live_leaf st.pages (with_row e r) ≡ false
 
--- no page has an incomplete split, neither the entry nor, on a unique index, its key is there, its leaf has room, the insert is on its
--- way: after so many steps it is added
+-- after `steps` steps the entry is added: no page has an incomplete split; neither the entry nor, on a unique
+-- index, its key is there; its leaf has room; the insert is on its way
 pub record InsertIsDue (st : State) (op : InsertOp) (steps : ℕ) : Type 0 where
   pub steps_are : steps ≡ insert_steps st.pages op.at
   pub whole : NoneIsIncomplete st.pages
@@ -37,14 +37,16 @@ pub record InsertIsDue (st : State) (op : InsertOp) (steps : ℕ) : Type 0 where
   pub key_absent : IsKeyAbsent st op.entry
   pub room : HasRoomFor st op.entry
 
--- no page has an incomplete split, nothing waits, the scan is on its way: after so many steps entries are ready
+-- after `steps` steps entries are ready: no page has an incomplete split, nothing waits, and the scan is on
+-- its way
 pub record ScanIsDue (st : State) (op : ScanOp) (steps : ℕ) : Type 0 where
   pub steps_are : steps ≡ scan_steps st.pages op.at
   pub whole : NoneIsIncomplete st.pages
   pub position : IsOnFrontierWay st op.frontier op.at
   pub none : waiting op ≡ []
 
--- the call answers after so many steps more, while the pages stay as they are; of a bulk delete and of a cleanup nothing is said
+-- the call answers after this number of steps more, while the pages stay as they are; of a bulk delete and of
+-- a cleanup nothing is said
 abbrev pub IsDueIn : State → Option Op → ℕ → Type 0
 IsDueIn st None steps = ⊥
 IsDueIn st (Some (Insert op)) steps = InsertIsDue st op steps
@@ -52,21 +54,21 @@ IsDueIn st (Some (Scan op)) steps = ScanIsDue st op steps
 IsDueIn st (Some (Bulk set op)) steps = ⊥
 IsDueIn st (Some (Cleanup op)) steps = ⊥
 
--- a step has left the pages and the limits as they were, and the call is due after so many more
+-- a step has left the pages and the limits as they were, and the call is due after `steps` more
 pub record StaysDue (old new : State) (slot : Option Op) (steps : ℕ) : Type 0 where
   pub pages : new.pages ≡ old.pages
   pub limits : new.limits ≡ old.limits
   pub due : IsDueIn new slot steps
 
--- what the call was to come to: an insert, that its entry is added, and nothing left unfinished; a scan, that entries are
--- ready
+-- the answer is what the call was to come to: of an insert, its entry is added and nothing is left
+-- unfinished; of a scan, entries are ready
 abbrev pub IsAwaited : Option Op → Answer → Type 0
 IsAwaited (Some (Insert op)) (Added action unfinished) = unfinished ≡ None
 IsAwaited (Some (Scan op)) (Ready count) = Unit {0}
 IsAwaited slot answer = ⊥
 
--- the refusals of calls whose leaves give no cause: a latch that another session holds, which costs no step; and the
--- device, the log, and the frames, which end the call
+-- the refusals of calls whose leaves give no cause: a latch that another session holds, which costs no step;
+-- and the device, the log, and the frames, which end the call
 abbrev pub IsHindered : State → State → Option Op → ℕ → Fault → Type 0
 IsHindered old new slot steps (Blocked block) = StaysDue old new slot steps
 IsHindered old new slot steps Io = Unit {0}
@@ -75,8 +77,8 @@ IsHindered old new slot steps LogFull = Unit {0}
 IsHindered old new slot steps NoFrame = Unit {0}
 IsHindered old new slot steps fault = ⊥
 
--- A step of a call that is due, with so many steps left after it: the last brings what is awaited, and each before it
--- answers `Going` and leaves one fewer.
+-- A step of a call that is due, with `left` steps left after it: the last brings what is awaited, and each
+-- before it answers `Going` and leaves one fewer.
 abbrev pub DueCountsDown : State → State → Option Op → Option Op → ℕ → Answer → Type 0
 DueCountsDown old new before after left Going = (0 < left) × StaysDue old new after left
 DueCountsDown old new before after left (Refused fault) = IsHindered old new after (suc left) fault
@@ -89,16 +91,16 @@ steps_for (ToScan range) = 2
 steps_for (ToBulk set) = 0
 steps_for ToCleanup = 0
 
--- a request that its leaf can serve at once: of an insert, neither the entry nor, on a unique index, its key is there, and
--- its leaf has room
+-- the leaf can serve the request at once: of an insert, neither the entry nor, on a unique index, its key is
+-- there, and its leaf has room
 abbrev pub IsServable : State → Request → Type 0
 IsServable st (ToInsert e) = (entry_on_live_leaf st.pages e ≡ false) × IsKeyAbsent st e × HasRoomFor st e
 IsServable st (ToScan range) = Unit {0}
 IsServable st (ToBulk set) = ⊥
 IsServable st ToCleanup = ⊥
 
--- A call has begun: where no page has an incomplete split and its leaf can serve it, it is due after so many steps more than the root's
--- level. What is left to do for it has a bound, whatever the pages are.
+-- A call has begun: if no page has an incomplete split and its leaf can serve it, it is due after a few steps
+-- more than the root's level (`steps_for`). What is left to do for it has a bound, whatever the pages are.
 pub record HasSteps (old new : State) (request : Request) (slot : Option Op) : Type 0 where
   pub due : NoneIsIncomplete old.pages → IsServable old request → IsDueIn new slot (root_level old.pages + steps_for request)
   pub bounded : work_in new slot < 281474976710656

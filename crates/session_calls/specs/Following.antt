@@ -1,4 +1,5 @@
--- What a step of a session's call promises whatever the pages are, and what is followed of the call, step by step.
+-- What a step of a session's call promises whatever the pages are, and what is followed of the call, step by
+-- step.
 use Rattle.std.specs.Prelude.{◌≡◌, ℕ, suc, Bool, true, false, Option, None, List}
 use Rattle.index_model.specs.Actions.{Action}
 use Rattle.index_model.specs.Calls.{Call}
@@ -16,22 +17,24 @@ use Rattle.session_calls.specs.declared.op.Op.{Op}
 pub record StepAnswerMeans (is_stopped : Bool) (old new : State) (before after : Option Op) (answer : Answer) : Type 0 where
   -- which faults it may tell of
   pub faults : IsCaused (causes_of_slot_stepped_any old.limits.unique before) answer
-  -- once the entry of an insert is logged only a page that is blocked refuses it, and it ends with the number of that action
+  -- once the entry of an insert is logged only a page that is blocked refuses it, and it ends with the number
+  -- of that action
   pub logged : AnswersLogged (slot_add before) answer
-  -- a fault that leaves a split unfinished leaves all as it was, but that the call is over
+  -- a fault that leaves a split unfinished ends the call; it changes nothing else
   pub unfinished : IncompleteChangesNothing old new before answer
-  -- a bulk delete or a cleanup that has finished tells what it has counted, and how many pages are in use, deleted and free
+  -- a bulk delete or a cleanup that has finished tells what it has counted, and how many pages are in use,
+  -- deleted and free
   pub stats : CountsStats old before answer
   -- while a scan has entries ready it tells how many, and changes nothing
   pub waits : WaitsToGive is_stopped old new before after answer
-  -- where it isn't the last of its call, each running call keeps its start number
+  -- if it isn't the last of its call, each running call keeps its start number
   pub starts : is_last answer ≡ false → new.running ≡ old.running
 
 -- a step, whatever the pages are
 pub record StepAlways {S : Type 0} (g : Ghosts S) (old new : S) (before after : Option Op) (answer : Answer) : Type 0 where
   -- without a call nothing is done
   pub idle : before ≡ None → (answer ≡ no_call (g.backing old).stopped) × (new ≡ old)
-  -- a refusal changes nothing, but that the call is over, unless it was refused with Blocked or NoSession
+  -- a refusal ends the call, unless it is one with Blocked or NoSession; it changes nothing else
   pub refused : RefusalChangesNothing (g.state old) (g.state new) before after answer
   -- on a stopped log it is refused for that, or an insert whose entry is logged ends so
   pub stopped : (g.backing old).stopped ≡ true → StoppedAnswersFirst (slot_add before) answer
@@ -45,7 +48,7 @@ pub record StepAlways {S : Type 0} (g : Ghosts S) (old new : S) (before after : 
   -- it does one act at most, and only a call that writes does one
   pub kept : KeepsPages (g.state old) (g.state new)
   pub calm : OnlyWritersAct before (g.state old) (g.state new)
-  -- over a device that keeps its model less is left to do, where it goes on, and no more in any case
+  -- over a device that keeps its model, less is left to do if it goes on, and never more
   pub less : (g.backing new).honest ≡ true → StepHasLessLeft (g.state old) (g.state new) before after answer
   pub no_more : (g.backing new).honest ≡ true → NoMoreIsLeft (g.state old) (g.state new) before after
 
@@ -61,9 +64,10 @@ pub record IsFitted (st : State) (sets : DeadSets) (slot : Option Op) : Type 0 w
 pub record FittedStepFollows (old new : State) (before after : Option Op) (answer : Answer) : Type 0 where
   -- a call that was due comes to what is awaited at its last step, and each step before leaves one fewer
   pub due : (left : ℕ) → IsDueIn old before (suc left) → DueCountsDown old new before after left answer
-  -- where only pages had incomplete splits that its insert is to finish, only such are; and none after its end, unless it tells of a fault
+  -- if no other pages had incomplete splits than those that its insert is to finish, no others have them now;
+  -- and none has one after its end, unless its answer names a fault
   pub incomplete : OnlyOwnAreIncomplete old before → LeavesOwnIncomplete new before after answer
-  -- a scan that has read a leaf stands on it, and on none where it goes on to another page
+  -- a scan that has read a leaf stands on it, and on none if it goes on to another page
   pub stands : StandsByAnswer new before after answer
   -- a bulk delete or a cleanup that has finished tells how many deleted pages may be used again now
   pub frees : CountsFree new before answer
@@ -72,12 +76,13 @@ pub record FittedStepFollows (old new : State) (before after : Option Op) (answe
 pub record EachStepFollows (sets : DeadSets) (old new : State) (before after : Option Op) (answer : Answer) : Type 0 where
   -- a bulk delete doesn't come past a leaf that another session has pinned, nor to its end
   pub waits : KeepsBeforePins old before after answer
-  -- where nobody else acts, what a bulk delete or a cleanup has counted are the entries that it has left; at its end it tells how many
-  -- there are, and a cleanup leaves no half-dead page
+  -- if nobody else acts, what a bulk delete or a cleanup has counted are the entries that it has left; at
+  -- its end it tells how many there are, and a cleanup leaves no half-dead page
   pub entries : CountsEntries sets old new before after answer
   -- a cleanup counts the pages that it deletes, and tells how many they were
   pub deletes : CountsPages old new before after answer
-  -- where nobody else holds a page, a cleanup leaves no empty leaf after it that might leave the tree
+  -- if nobody else holds a page, a cleanup leaves no empty leaf that it has passed and that might leave the
+  -- tree
   pub spares : SparesLeaves old new before after answer
 
 -- what is followed of a call by its step

@@ -1,5 +1,5 @@
--- The words of a running call that each operation fills in: what it was asked, what it knows between its steps, what it may
--- answer, and what is left to do for it.
+-- The words of a running call that each operation fills in: what it was asked, what it knows between its
+-- steps, what it may answer, and what is left to do for it.
 use Rattle.std.specs.Prelude.{◌≡◌, ℕ, ◌<◌, nat_lt, ◌||◌, Bool, true, false, Option, Some, None, unwrap_or, List, [], ◌++◌, length, slice_get}
 use Rattle.index_model.specs.Actions.{Action, ThereAtSomeMoment}
 use Rattle.index_model.specs.Calls.{Ask, AskInsert, AskScan, AskBulkDelete, AskCleanup, GivesAll}
@@ -187,13 +187,13 @@ runs_bulk_delete st = nat_lt 0 st.cycle
 abbrev pub causes_of_requesting : Bool → State → Backing → Bool → Circumstances
 causes_of_requesting excluded st old busy = record (causes_of_beginning st old busy) { vacuum_runs = excluded }
 
--- a fault that is left after has its cause
+-- the fault, if there is one, has its cause
 abbrev pub IsFaultCaused : Circumstances → Option Fault → Type 0
 IsFaultCaused at None = Unit {0}
 IsFaultCaused at (Some fault) = HasCause at fault
 
--- the circumstances of an insert whose entry is logged: none of them is that the entry or its key was there, or that another session
--- holds a page
+-- the circumstances of an insert whose entry is logged: none of them is that the entry or its key was there,
+-- or that another session holds a page
 abbrev pub once_added : Circumstances → Circumstances
 once_added at = record at {
   is_held_by_another = λ b. false;
@@ -207,8 +207,8 @@ IsCaused at (Refused fault) = HasCause at fault
 IsCaused at (Added action unfinished) = IsFaultCaused (once_added at) unfinished
 IsCaused at answer = Unit {0}
 
--- what may be so where a step of this call is refused, on a unique index or another, whatever the pages are; the set that a bulk delete
--- names may not be there
+-- what may be so if a step of this call is refused, on a unique index or another, whatever the pages are;
+-- the set that a bulk delete names may not be there
 abbrev pub causes_of_stepped_any : Bool → Op → Circumstances
 causes_of_stepped_any unique (Insert op) = causes_of_inserting_any unique op.entry
 causes_of_stepped_any unique (Scan op) = causes_of_reading_any
@@ -241,19 +241,21 @@ is_last (Flushed block) = false
 is_last (Checkpointed count) = false
 is_last (Refused fault) = ends_call fault
 
--- on a stopped log a step is refused with `Stopped`; an insert whose entry is logged ends as added, with that fault
+-- on a stopped log a step is refused with `Stopped`; an insert whose entry is logged ends as added, with that
+-- fault
 abbrev pub StoppedAnswersFirst : Option ℕ → Answer → Type 0
 StoppedAnswersFirst None answer = answer ≡ Refused Stopped
 StoppedAnswersFirst (Some action) answer = answer ≡ Added action (Some Stopped)
 
--- once the entry of an insert is logged only a page that is blocked refuses a step, and it ends with the number of that action
+-- once the entry of an insert is logged only a page that is blocked refuses a step, and it ends with the
+-- number of that action
 abbrev pub AnswersLogged : Option ℕ → Answer → Type 0
 AnswersLogged None answer = Unit {0}
 AnswersLogged (Some action) (Added number unfinished) = number ≡ action
 AnswersLogged (Some action) (Refused fault) = is_blocked fault ≡ true
 AnswersLogged (Some action) answer = Unit {0}
 
--- what is left to do for a call on these pages, of which there are at most so many: steps, and entries to give
+-- what is left to do for a call on these pages, of which there are `most` at most: steps, and entries to give
 abbrev pub op_work : ℕ → List Page → Op → ℕ
 op_work most pages (Insert op) = insert_left most pages op.at
 op_work most pages (Scan op) = scan_left most pages op

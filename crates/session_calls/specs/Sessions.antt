@@ -37,8 +37,8 @@ use Rattle.session_calls.specs.declared.op.Op.{Op}
 use Rattle.session_calls.specs.declared.op.Op.TheVariants.{Insert, Scan, Bulk, Cleanup}
 use Rattle.session_calls.specs.declared.request.Request.{Request}
 
--- the contents of the pages are those after the history, the acts are as many as its actions, all is in order, and each
--- running call began before so many calls had begun
+-- the contents of the pages are those after the history; the acts are as many as its actions; all is in
+-- order; each running call's start number is below the count of calls begun
 pub record Matches (st : State) (start : Entry → Bool) (history : List Action) : Type 0 where
   pub contents : (e : Entry) → entry_on_live_leaf st.pages e ≡ contents_after start history e
   pub count : st.acts ≡ length history
@@ -49,7 +49,8 @@ pub record Matches (st : State) (start : Entry → Bool) (history : List Action)
 abbrev pub start_number : State → ℕ → Option ℕ
 start_number st session = unwrap_or (slice_get st.running session) None
 
--- a session with no call holds nothing, and has no start number, so none of its calls keeps a page from being used again
+-- a session with no call holds nothing, and has no start number, so none of its calls keeps a page from being
+-- used again
 pub record IsIdle (st : State) (session : ℕ) : Type 0 where
   pub holds : holding_of st.table session ≡ nothing_held
   pub number : start_number st session ≡ None
@@ -91,8 +92,8 @@ abbrev pub act_count : Option Effect → ℕ
 act_count None = 0
 act_count (Some effect) = 1
 
--- what a call may do by what it was asked: an insert that has no Add may add its entry; a bulk delete may remove entries of
--- its set; an insert and a cleanup may change the shape of the pages
+-- what a call may do by what it was asked: an insert that has no Add may add its entry; a bulk delete may
+-- remove entries of its set; an insert and a cleanup may change the shape of the pages
 abbrev pub MayDo : Ask → Option ℕ → Effect → Type 0
 MayDo (AskInsert asked) added (Add e) = (asked ≡ e) × (added ≡ None)
 MayDo (AskInsert asked) added Shape = Unit {0}
@@ -112,11 +113,11 @@ add_after added action (Some (Add e)) = Some action
 add_after added action (Some (Remove es)) = added
 add_after added action (Some Shape) = added
 
--- the call after an event of this effect, with so many actions before it: its Add is noted
+-- the call after an event of this effect, with `count` actions before it: its Add is noted
 abbrev pub noted : Call → ℕ → Option Effect → Call
 noted call count effect = record call { added = add_after call.added (suc count) effect }
 
--- the call, ended so with so many actions
+-- the call, ended so when there are `count` actions
 abbrev pub ended : Call → Ending → ℕ → Call
 ended call ending count = record call { ending = ending; until = count }
 
@@ -128,7 +129,8 @@ given_one call e = record call { given = call.given ++ e ∷ [] }
 abbrev pub Refuses : Fault → ℕ → Call → Call → Type 0
 Refuses fault count call after = after ≡ (if ends_call fault then ended call (Failed fault) count else call)
 
--- an insert whose Add is noted ends with it, as of now; where a fault left a split unfinished, no action is appended
+-- an insert whose Add is noted ends with it, as of now; if a fault left a split unfinished, no action is
+-- appended
 pub record EndsWithAdd (action : ℕ) (unfinished : Option Fault) (count : ℕ) (effect : Option Effect) (call after : Call) : Type 0 where
   pub noted_is : (noted call count effect).added ≡ Some action
   pub after_is : after ≡ ended (noted call count effect) (EndsAdded action unfinished) (act_count effect + count)
@@ -139,7 +141,8 @@ pub record OnlyBecomes (effect : Option Effect) (becomes after : Call) : Type 0 
   pub none : effect ≡ None
   pub after_is : after ≡ becomes
 
--- What an answer says of the effect of an event, and of the call before and after it, with so many actions before.
+-- What an answer says of the effect of an event, and of the call before and after it, with `count` actions
+-- before.
 abbrev pub AnswerMeans : Answer → ℕ → Option Effect → Call → Call → Type 0
 AnswerMeans Begun count effect call after = ⊥
 AnswerMeans Going count effect call after = after ≡ noted call count effect
@@ -155,7 +158,7 @@ AnswerMeans (Flushed block) count effect call after = ⊥
 AnswerMeans (Checkpointed count') count effect call after = ⊥
 AnswerMeans (Refused fault) count effect call after = (effect ≡ None) × Refuses fault count call after
 
--- what is left to do for a call on these pages, of which there are at most so many: steps, and entries to give
+-- what is left to do for a call on these pages, of which there are `most` at most: steps, and entries to give
 abbrev pub work_left : ℕ → List Page → Option Op → ℕ
 work_left most pages None = 0
 work_left most pages (Some op) = op_work most pages op
@@ -169,8 +172,8 @@ abbrev pub NothingIsReady : Option Op → Type 0
 NothingIsReady None = Unit {0}
 NothingIsReady (Some op) = ready_of op ≡ []
 
--- where a step that goes on owes to leave less to do: each of a bulk delete and of a cleanup does, any other where no act is
--- done
+-- when a step that goes on owes to leave less to do: each of a bulk delete and of a cleanup does, any other
+-- if no act is done
 abbrev pub OwesLess : Option Op → State → State → Type 0
 OwesLess None old new = new.acts ≡ old.acts
 OwesLess (Some (Insert op)) old new = new.acts ≡ old.acts
@@ -178,8 +181,8 @@ OwesLess (Some (Scan op)) old new = new.acts ≡ old.acts
 OwesLess (Some (Bulk set op)) old new = Unit {0}
 OwesLess (Some (Cleanup op)) old new = Unit {0}
 
--- a step that ends no call leaves less to do: each `Going` that owes it, and each `Ready` where all that was ready had been
--- given
+-- a step that ends no call leaves less to do: each `Going` that owes it, and each `Ready` after all that was
+-- ready had been given
 abbrev pub StepHasLessLeft : State → State → Option Op → Option Op → Answer → Type 0
 StepHasLessLeft old new before after Going = OwesLess before old new → work_in new after < work_in old before
 StepHasLessLeft old new before after (Ready count) = NothingIsReady before → work_in new after < work_in old before
@@ -189,12 +192,12 @@ StepHasLessLeft old new before after answer = Unit {0}
 abbrev pub NoMoreIsLeft : State → State → Option Op → Option Op → Type 0
 NoMoreIsLeft old new before after = new.acts ≡ old.acts → work_in new after ≤ work_in old before
 
--- an entry that was given leaves less to do; where none is given, none is ready, and nothing is changed
+-- an entry that was given leaves less to do; if none is given, none is ready, and nothing is changed
 abbrev pub GivesLess : Option Op → Option Op → Answer → Type 0
 GivesLess before after (Gave (Some e)) = (most : ℕ) (pages : List Page) → work_left most pages after < work_left most pages before
 GivesLess before after answer = (after ≡ before) × NothingIsReady before
 
--- what is ready, where the slot runs a call
+-- what is ready, if the slot runs a call
 abbrev pub slot_ready : Option Op → List Entry
 slot_ready None = []
 slot_ready (Some op) = ready_of op
@@ -214,9 +217,9 @@ pub record StepWaits (old new : State) (before after : Option Op) (answer : Answ
 abbrev pub WaitsToGive : Bool → State → State → Option Op → Option Op → Answer → Type 0
 WaitsToGive is_stopped old new before after answer = is_stopped ≡ false → (NothingIsReady before → ⊥) → StepWaits old new before after answer
 
--- What a step may answer, by what the session runs before and after: of an insert, that it goes on or that its entry is added; of a
--- scan, that it goes on, how many entries are ready, or that it has given all; of a bulk delete and of a cleanup, that it goes on or has
--- finished; and a refusal.
+-- What a step may answer, by what the session runs before and after: of an insert, that it goes on or that
+-- its entry is added; of a scan, that it goes on, how many entries are ready, or that it has given all; of a
+-- bulk delete and of a cleanup, that it goes on or has finished; and a refusal.
 abbrev pub AnswersStep : Option Op → Option Op → Answer → Type 0
 AnswersStep (Some (Insert op)) after Going = Unit {0}
 AnswersStep (Some (Insert op)) after (Added action unfinished) = Unit {0}
@@ -230,7 +233,7 @@ AnswersStep (Some (Cleanup op)) after (Finished stats) = Unit {0}
 AnswersStep before after (Refused fault) = Unit {0}
 AnswersStep before after answer = ⊥
 
--- only a scan gives: an entry, or none where none is ready; all else is refused
+-- only a scan gives: an entry, or none if none is ready; all else is refused
 abbrev pub AnswersNext : Option Op → Answer → Type 0
 AnswersNext (Some (Scan op)) (Gave entry) = Unit {0}
 AnswersNext (Some (Scan op)) answer = ⊥
@@ -242,7 +245,7 @@ abbrev pub AnswersEnd : Option Op → Answer → Type 0
 AnswersEnd (Some op) answer = answer ≡ Ended
 AnswersEnd None answer = answer ≡ Refused NoSession
 
--- what is answered where the session has no call to step
+-- what is answered if the session has no call to step
 abbrev pub no_call : Bool → Answer
 no_call is_stopped = if is_stopped then Refused Stopped else Refused NoSession
 
@@ -251,7 +254,7 @@ abbrev pub slot_add : Option Op → Option ℕ
 slot_add None = None
 slot_add (Some op) = add_of op
 
--- after a session's call has ended: what it held is let go; and where it was a bulk delete, none runs now
+-- after a session's call has ended: what it held is let go; and if it was a bulk delete, none runs now
 abbrev pub let_go : Bool → ℕ → State → State
 let_go false session st = after_end session st
 let_go true session st = after_stop_cycle (after_end session st)
@@ -269,19 +272,19 @@ pub record StepIsRefused (old new : State) (op : Op) (after : Option Op) (fault 
   pub state : new ≡ (if ends_call fault then op_after_call op old else old)
   pub slot_is : after ≡ (if ends_call fault then None else Some op)
 
--- a refused step changes nothing, but that the call is over, unless it was refused with Blocked or NoSession
+-- a refused step ends the call, unless it was refused with Blocked or NoSession; it changes nothing else
 abbrev pub RefusalChangesNothing : State → State → Option Op → Option Op → Answer → Type 0
 RefusalChangesNothing old new (Some op) after (Refused fault) = StepIsRefused old new op after fault
 RefusalChangesNothing old new None after answer = (new ≡ old) × (after ≡ None)
 RefusalChangesNothing old new (Some op) after answer = Unit {0}
 
--- a step that tells of a fault which leaves a split unfinished has changed nothing, but that the call is over
+-- a step whose answer names a fault that leaves a split unfinished ends the call; it changes nothing else
 abbrev pub IncompleteChangesNothing : State → State → Option Op → Answer → Type 0
 IncompleteChangesNothing old new (Some op) (Added action (Some fault)) = new ≡ op_after_call op old
 IncompleteChangesNothing old new before answer = Unit {0}
 
--- On any pages an event does one act at most, and with none the pages are as they were; so are limits, frames and the
--- count of calls.
+-- On any pages an event does one act at most, and with none the pages are as they were; so are limits, frames
+-- and the count of calls.
 pub record KeepsPages (old new : State) : Type 0 where
   pub acts : (new.acts ≡ old.acts) ⊎ (new.acts ≡ suc old.acts)
   pub quiet : new.acts ≡ old.acts → new.pages ≡ old.pages
@@ -301,8 +304,9 @@ abbrev pub OnlyOwnAreIncomplete : State → Option Op → Type 0
 OnlyOwnAreIncomplete st None = OnlyTargetsAreIncomplete st []
 OnlyOwnAreIncomplete st (Some op) = OnlyTargetsAreIncomplete st (op_targets op)
 
--- Which pages have incomplete splits after a step, by what it answers: those alone whose splits the insert is to finish yet; none
--- where its entry is added and nothing is left unfinished; where a fault ends it, those whose splits it was to finish.
+-- Which pages have incomplete splits after a step, by what it answers: those alone whose splits the insert is
+-- to finish yet; none if its entry is added and nothing is left unfinished; if a fault ends it, those
+-- whose splits it was to finish.
 abbrev pub LeavesOwnIncomplete : State → Option Op → Option Op → Answer → Type 0
 LeavesOwnIncomplete new before after (Added action (Some fault)) = OnlyOwnAreIncomplete new before
 LeavesOwnIncomplete new before after (Added action None) = OnlyOwnAreIncomplete new None
@@ -321,17 +325,18 @@ asks_cleanup (AskInsert e) = false
 asks_cleanup (AskScan range) = false
 asks_cleanup (AskBulkDelete dead) = false
 
--- What an effect of a call does to the shape of the pages, by what was asked: by one of a cleanup one leaf goes on its way out
--- of the tree; any other moves flags as the effect says.
+-- What an effect of a call does to the shape of the pages, by what was asked: by one of a cleanup one leaf
+-- goes on its way out of the tree; any other moves flags as the effect says.
 abbrev pub MovesShape : Ask → Option Effect → State → State → Type 0
 MovesShape AskCleanup effect old new = DeletesLeaves effect old new
 MovesShape (AskInsert e) effect old new = MovesFlags effect old new
 MovesShape (AskScan range) effect old new = MovesFlags effect old new
 MovesShape (AskBulkDelete dead) effect old new = MovesFlags effect old new
 
--- A step of a session's call, by what was asked, with one effect at most: the pages are a tree again; what it does to their
--- shape; leaves stay, or are split as a bulk delete beside it needs, except for a cleanup's, and those that others have pinned
--- stay in any case; calls, limits and the cycle number are as they were, and every other session may rely on what it held.
+-- A step of a session's call, by what was asked, with one effect at most. The pages are a tree again, and
+-- their shape changes as what was asked allows. Leaves stay, or are split as a bulk delete beside it needs,
+-- unless the call is a cleanup. Leaves that others have pinned always stay. Calls, limits and the cycle
+-- number are as they were, and every other session may rely on what it held.
 pub record CallEffect (session : ℕ) (ask : Ask) (effect : Option Effect) (old new : State) : Type 0 where
   pub changes : HasEffect effect old new
   pub shape : MovesShape ask effect old new
@@ -345,11 +350,12 @@ pub record CallEffect (session : ℕ) (ask : Ask) (effect : Option Effect) (old 
   pub order : IsInOrder new
   pub others : OthersRely session old new
 
--- One event of a running call: it appends at most one action, which the call was asked for; what is told of it; its cause;
--- the pages match the longer history; what it does to their shape; the limits stay, and where no action is logged, the pages;
--- others may rely; the cycle number stays until a bulk delete ends, and with it leaves stay, or are split as a bulk delete
--- needs, except for a cleanup's; those that others have pinned stay; the call goes on meeting its definition; what the slot holds
--- then; and what a bulk delete is to remove still.
+-- One event of a running call. It appends at most one action, which the call was asked for. Its answer means
+-- what it says, and a refusal has its cause. The pages match the longer history, and their shape changes as
+-- what was asked allows. The limits stay; so do the pages, if no action is logged. Others may rely on what
+-- they held. The cycle number stays until a bulk delete ends. While it stays, leaves stay too, or are split
+-- as a bulk delete needs, unless the call is a cleanup. Leaves that others have pinned stay. The call goes on
+-- meeting its definition. It says what the slot holds then, and what a bulk delete is to remove still.
 pub record SessionEvent (at : Circumstances) (old new : State) (sets : DeadSets) (start : Entry → Bool) (history : List Action) (number : ℕ)
     (call : Call) (slot : Option Op) (answer : Answer) : Type 0 where
   pub effect : Option Effect
@@ -399,14 +405,15 @@ pub record StandsOnLeaf (st : State) (slot : Option Op) : Type 0 where
   pub live : IsLeafAt st.pages block page
   pub of_leaf : (e : Entry) → is_among (slot_ready slot) e ≡ true → is_among (entries_of page.items) e ≡ true
 
--- where a step leaves a scan that had nothing ready: on the leaf that it has read, or on none where it goes on
+-- where a step leaves a scan that had nothing ready: on the leaf that it has read, or on none if it goes
+-- on
 abbrev pub StandsByAnswer : State → Option Op → Option Op → Answer → Type 0
 StandsByAnswer new (Some (Scan op)) after Going = leaf_of after ≡ None
 StandsByAnswer new (Some (Scan op)) after (Ready count) = waiting op ≡ [] → StandsOnLeaf new after
 StandsByAnswer new before after answer = Unit {0}
 
--- what it has counted are the entries that it has left, if it is a bulk delete that runs on; a cleanup leaves no half-dead page
--- after it either
+-- what it has counted are the entries that it has left, if it is a bulk delete that runs on; a cleanup also
+-- leaves no half-dead page that it has passed
 abbrev pub SlotIsCounted : DeadSets → State → Option Op → Type 0
 SlotIsCounted sets st None = Unit {0}
 SlotIsCounted sets st (Some (Insert op)) = Unit {0}
@@ -424,13 +431,14 @@ abbrev pub CountsAllCleaned : State → Answer → Type 0
 CountsAllCleaned st (Finished stats) = AllIsCleaned st stats.num_index_tuples
 CountsAllCleaned st answer = Unit {0}
 
--- a bulk delete or a cleanup that has finished tells what it has counted, and how many pages are in use, deleted and free
+-- a bulk delete or a cleanup that has finished tells what it has counted, and how many pages are in use,
+-- deleted and free
 abbrev pub CountsStats : State → Option Op → Answer → Type 0
 CountsStats st (Some (Bulk set op)) (Finished stats) = stats ≡ stats_of st op
 CountsStats st (Some (Cleanup op)) (Finished stats) = stats ≡ cleanup_stats st op
 CountsStats st before answer = Unit {0}
 
--- how many of the first so many blocks may be used again
+-- how many of the blocks below a number may be used again
 abbrev pub reusable_count : State → ℕ → ℕ
 reusable_count st zero = 0
 reusable_count st (suc block) = (if is_reusable st block then 1 else 0) + reusable_count st block
@@ -439,13 +447,14 @@ reusable_count st (suc block) = (if is_reusable st block then 1 else 0) + reusab
 abbrev pub reusable_in : State → ℕ
 reusable_in st = reusable_count st (length st.pages)
 
--- a bulk delete or a cleanup that has finished, and runs no more, tells how many deleted pages may be used again now
+-- a bulk delete or a cleanup that has finished, and runs no more, tells how many deleted pages may be used
+-- again now
 abbrev pub CountsFree : State → Option Op → Answer → Type 0
 CountsFree st (Some (Bulk set op)) (Finished stats) = stats.pages_free ≡ reusable_in st
 CountsFree st (Some (Cleanup op)) (Finished stats) = stats.pages_free ≡ reusable_in st
 CountsFree st before answer = Unit {0}
 
--- as many more pages are deleted after a step of a cleanup as it has counted more, where it runs on
+-- as many more pages are deleted after a step of a cleanup as it has counted more, if it runs on
 abbrev pub CountsPagesOn : State → State → CleanupOp → Option Op → Type 0
 CountsPagesOn old new before (Some (Cleanup after)) = deleted_in new + before.deleted ≡ deleted_in old + after.deleted
 CountsPagesOn old new before after = Unit {0}
@@ -456,8 +465,8 @@ CountsPages old new (Some (Cleanup op)) after Going = CountsPagesOn old new op a
 CountsPages old new (Some (Cleanup op)) after (Finished stats) = deleted_in new + op.deleted ≡ deleted_in old + stats.pages_newly_deleted
 CountsPages old new before after answer = Unit {0}
 
--- where nobody else acts, what a bulk delete or a cleanup has counted are the entries that it has left; at the end all of them;
--- and a cleanup leaves no half-dead page
+-- if nobody else acts, what a bulk delete or a cleanup has counted are the entries that it has left; at
+-- the end all of them; and a cleanup leaves no half-dead page
 abbrev pub CountsEntries : DeadSets → State → State → Option Op → Option Op → Answer → Type 0
 CountsEntries sets old new (Some (Bulk set op)) after answer =
     IsCounted (set_at sets set) old op → SlotIsCounted sets new after × CountsAllEntries new answer
@@ -465,7 +474,7 @@ CountsEntries sets old new (Some (Cleanup op)) after answer =
     CleanupInvariant old op → IsCleaned old op → SlotIsCounted sets new after × CountsAllCleaned new answer
 CountsEntries sets old new before after answer = Unit {0}
 
--- a cleanup that runs on leaves no empty leaf after it that might leave the tree
+-- a cleanup that runs on leaves no empty leaf that it has passed and that might leave the tree
 abbrev pub SlotIsSparing : State → Option Op → Type 0
 SlotIsSparing st None = Unit {0}
 SlotIsSparing st (Some (Insert op)) = Unit {0}
@@ -478,8 +487,8 @@ abbrev pub OnlyNeededAreLeft : State → Answer → Type 0
 OnlyNeededAreLeft st (Finished stats) = OnlyNeededStay st
 OnlyNeededAreLeft st answer = Unit {0}
 
--- where nobody else holds a page, and no page was half-dead when it began, a cleanup leaves no empty leaf that might leave the
--- tree
+-- if nobody else holds a page, and no page was half-dead when it began, a cleanup leaves no empty leaf
+-- that might leave the tree
 abbrev pub SparesLeaves : State → State → Option Op → Option Op → Answer → Type 0
 SparesLeaves old new (Some (Cleanup op)) after answer =
     IsInOrder old → StartsAreBelow old → CleanupInvariant old op → IsAlone old op.session → IsSparing old op
@@ -499,8 +508,8 @@ abbrev pub after_request : Bool → ℕ → State → State
 after_request false session st = after_begin session st
 after_request true session st = after_start_cycle (after_begin session st)
 
--- a call has begun that isn't excluded: it gets a start number, a bulk delete a cycle number, and the session's slot runs it
--- from its first step on
+-- a call has begun that isn't excluded: it gets a start number, a bulk delete a cycle number, and the
+-- session's slot runs it from its first step on
 pub record IsBegun (old new : State) (session : ℕ) (request : Request) (excluded : Bool) (before after : Option Op) : Type 0 where
   pub state : new ≡ after_request (asks_bulk_delete request) session old
   pub was_free : before ≡ None
@@ -519,8 +528,9 @@ BeginsBy old old_backing new session request excluded before after Begun = IsBeg
 BeginsBy old old_backing new session request excluded before after (Refused fault) = IsNotBegun old old_backing new excluded before after fault
 BeginsBy old old_backing new session request excluded before after answer = ⊥
 
--- a call that has begun over a history of so many actions: the pages match it still, others may rely, the call meets its
--- definition, and the slot runs it; except for a bulk delete's the cycle number stays; and all that is due to it is to come
+-- a call that has begun over this history: the pages match it still, others may rely, the call meets its
+-- definition, and the slot runs it; except for a bulk delete's the cycle number stays; and all that is due to
+-- it is to come
 pub record SessionBegins (old new : State) (sets : DeadSets) (start : Entry → Bool) (history : List Action) (number session : ℕ) (request : Request) (slot : Option Op) : Type 0 where
   pub world : Matches new start history
   pub others : OthersRely session old new
@@ -530,13 +540,13 @@ pub record SessionBegins (old new : State) (sets : DeadSets) (start : Entry → 
   pub leaves : new.cycle ≡ old.cycle → LeafPagesStay None old new
   pub deletions : IsOfSets sets request → SlotDeletions new sets start history number (length history) slot
 
--- what an operation runs after a step: nothing, where its answer is the last
+-- what an operation runs after a step: nothing, if its answer is the last
 abbrev pub slot_after : Answer → Op → Option Op
 slot_after answer op = if is_last answer then None else Some op
 
--- A step of an operation, before what it holds is let go at its end. On any pages: it stays of its kind; what it may answer; it
--- does one act at most; a refusal changes nothing; a stopped log refuses it; what it tells of the pages; and over a device that
--- keeps its model, what is left to do.
+-- A step of an operation, before what it holds is let go at its end. On any pages: it stays of its kind; what
+-- it may answer; it does one act at most; a refusal changes nothing; a stopped log refuses it; what it tells
+-- of the pages; and over a device that keeps its model, what is left to do.
 pub record OpSteps {S : Type 0} (g : Ghosts S) (before after : Op) (old new : S) (answer : Answer) : Type 0 where
   pub steps : Continues g.follows old new
   pub session : session_of after ≡ session_of before

@@ -48,8 +48,8 @@ is_of_sets sets (ToScan range) = true
 is_of_sets sets (ToBulk set) = nat_lt set (length sets)
 is_of_sets sets ToCleanup = true
 
--- the session that may begin a call, where calls begin at all, there is such a session and the set that is named, and it has no
--- call: refused for the first of these that isn't so
+-- The session may begin a call if calls begin at all, if there is such a session and the set that is named,
+-- and if the session has no call. Else it is refused for the first of these that isn't so.
 abbrev pub session_to_begin : Bool → Bool → Option (Option Op) → ℕ → Result ℕ Fault
 session_to_begin true has_set slot session = Err Stopped
 session_to_begin false has_set None session = Err NoSession
@@ -73,7 +73,8 @@ pub record SlotBegins {S : Type 0} (g : Ghosts S) (old new : S) (session : ℕ) 
       → SessionBegins (g.state old) (g.state new) sets start history number session request after
   pub counts : answer ≡ Begun → HasSteps (g.state old) (g.state new) request after
 
--- a step of what a slot runs: whatever the pages are; over a history that fits; and what is followed of the call
+-- a step of what a slot runs: whatever the pages are; over a history that fits; and what is followed of the
+-- call
 pub record SlotSteps {S : Type 0} (g : Ghosts S) (sets : DeadSets) (old new : S) (answer : Answer) (before after : Option Op) : Type 0 where
   pub always : StepAlways g old new before after answer
   pub goes : (g.backing new).honest ≡ true → (start : Entry → Bool) (history : List Action) (number : ℕ) (call : Call) → SlotFits (g.state old) sets start history number call before

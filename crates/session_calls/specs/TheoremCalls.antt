@@ -1,4 +1,5 @@
--- The theorem's words: what a request asks, the call that it begins, and what an answer makes of a running call.
+-- The theorem's words: what a request asks, the call that it begins, and what an answer makes of a running
+-- call.
 use Rattle.std.specs.Prelude.{ℕ, Bool, false, Option, Some, None, unwrap_or, List, [], ◌∷◌, ◌++◌, slice_get}
 use Rattle.index_model.specs.Actions.{Effect, Action}
 use Rattle.index_model.specs.Calls.{Ask, AskInsert, AskScan, AskBulkDelete, AskCleanup, Running, Added as EndsAdded, Finished as EndsFinished, Vacuumed, GivenUp, Failed, Call}
@@ -20,7 +21,7 @@ asked_by sets (ToScan range) = AskScan range
 asked_by sets (ToBulk set) = AskBulkDelete (unwrap_or (slice_get sets set) (λ row. false))
 asked_by sets ToCleanup = AskCleanup
 
--- a call that begins with so many actions before it
+-- a call that begins with `count` actions before it
 abbrev pub begun_call : ℕ → Ask → ℕ → Call
 begun_call session ask count = record { session = session; ask = ask; began = count; given = []; added = None; ending = Running; until = 0 }
 
@@ -29,8 +30,8 @@ abbrev pub acts_of : ℕ → Option Effect → List Action
 acts_of number None = []
 acts_of number (Some effect) = record { by = number; effect = effect } ∷ []
 
--- what an answer makes of a running call, so many actions being there then: it has given one entry more, or has ended, or it goes on;
--- so does one that is blocked, and one that the event doesn't fit
+-- what an answer makes of a running call, when there are `count` actions: it has given one entry more, or has
+-- ended, or it goes on; so does one that is blocked, and one that the event doesn't fit
 abbrev pub becomes : Answer → ℕ → Call → Call
 becomes (Added action unfinished) count call = record call { ending = EndsAdded action unfinished; until = count }
 becomes Done count call = record call { ending = EndsFinished; until = count }

@@ -18,7 +18,8 @@ CallsAreUndisturbed =
     (old new : State) (sets : DeadSets) (start : Entry → Bool) (history acts : List Action) (call : Call) (op : Op)
     → MayRely call.session old new → PinnedLeavesLast call.session old new → OpRuns old sets start history call op → OpRuns new sets start (history ++ acts) call op
 
--- what a running bulk delete is to remove is to come still after others have acted, whose acts leave its leaves
+-- what a running bulk delete is to remove is to come still after others have acted, whose acts leave its
+-- leaves
 abbrev pub DeletionsAreUndisturbed : Type 0
 DeletionsAreUndisturbed =
     (old new : State) (sets : DeadSets) (start : Entry → Bool) (history : List Action) (number other began : ℕ) (effect : Option Effect) (op : Op)

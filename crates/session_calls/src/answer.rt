@@ -1,4 +1,4 @@
-//! Answers.
+//! What events of a session answer.
 
 use index_model::{Entry, Fault, VacuumStats};
 
@@ -14,7 +14,7 @@ pub enum Answer {
         action: u64,
         unfinished: Option<Fault>,
     },
-    /// So many entries are ready to be given.
+    /// Entries are ready to be given: their number.
     Ready(u32),
     /// A scan has given all.
     Done,
@@ -24,11 +24,11 @@ pub enum Answer {
     Gave(Option<Entry>),
     /// The call is given up.
     Ended,
-    /// All actions are durable: so many.
+    /// All actions are durable: their number.
     Forced(u64),
     /// This page was written, or none was changed.
     Flushed(Option<u32>),
-    /// All actions are durable and every changed page is written: so many actions.
+    /// All actions are durable and every changed page is written: the number of actions.
     Checkpointed(u64),
     /// Refused.
     Refused(Fault),

@@ -1,4 +1,4 @@
-//! Beginnings.
+//! How a session's call begins.
 
 ghost use Rattle.std.specs.Prelude.{◌≡◌, ◌<◌, ◌≤◌, true, false, Bool, List, ℕ, OnOk, OnErr, IfErr, Err, Some, length};
 ghost use Rattle.index_model.specs.Actions.{Action};
@@ -29,12 +29,12 @@ pub(crate) fn no_call_begins<S: PageStore>(store: &S) -> bool
     store.is_stopped() || store.begun() == u64::MAX
 }
 
-/// Begins a call of a session. `excluded` tells that it is a bulk delete or a cleanup, and a session runs one. Refused with
-/// `Stopped` (3) where no call begins; with `SessionBusy` (13) where the session has a call; with `VacuumRunning` (11) where it
-/// is excluded: nothing is changed then.
+/// Begins a call of a session. `excluded` tells that it is a bulk delete or a cleanup, and a session runs
+/// one. Refused with `Stopped` (3) if no call begins; with `SessionBusy` (13) if the session has a
+/// call; with `VacuumRunning` (11) if it is excluded: nothing is changed then.
 ///
-/// On its own, into a leaf with room, an insert takes three steps more than the root's level; the first entries of a scan
-/// are ready after two more.
+/// An insert that runs alone, into a leaf with room, takes three steps more than the root's level. The first
+/// entries of a scan that runs alone are ready after two steps more than that level.
 pub(crate) fn begin<S: PageStore>(
     store: &mut S,
     session: Session,
@@ -89,7 +89,7 @@ fn fill(slot: &mut Option<Op>, session: Session, request: Request)
     }
 }
 
-// In the room of the last call, where that was an insert.
+// In the room of the last call, if that was an insert.
 fn fill_insert(slot: &mut Option<Op>, session: Session, entry: Entry)
     ensures { slot.new ≡ Some (op_before session (ToInsert entry)) }
 {
@@ -99,7 +99,7 @@ fn fill_insert(slot: &mut Option<Op>, session: Session, entry: Entry)
     }
 }
 
-// Few inserts begin where something else ran: the others are spared the room for a whole call.
+// Few inserts begin after something else ran: the others are spared the room for a whole call.
 #[inline(never)]
 fn put_insert(slot: &mut Option<Op>, session: Session, entry: Entry)
     ensures { slot.new ≡ Some (op_before session (ToInsert entry)) }

@@ -14,14 +14,17 @@ use page_action::PageStore;
 use page_codec::Page;
 use std::alloc::Global;
 
-/// The running call of each of 1 to 64 sessions, which has one at most. After it is made, nothing takes memory.
+/// The running call of each of 1 to 64 sessions, which has one at most. After it is made, nothing takes
+/// memory.
 ///
-/// Of what its calls promise: a session that runs nothing is refused, and nothing is changed (`idle`, `not_begun`); else its
-/// slot alone is changed, and what the clause's word says holds of what it was and is (`changes`).
+/// What its calls promise has one form. A session that runs nothing is refused, and nothing is changed
+/// (`idle`, `not_begun`). Else the session's slot alone is changed, and the clause's word speaks of the slot
+/// before and after (`changes`).
 #[derive(Drop)]
 pub struct Calls {
     slots: Vec<Slot>,
-    // Where an insert changes a copy of its leaf, and where it splits one. Between steps they have no meaning.
+    // Where an insert changes a copy of its leaf, and where it splits one. Between steps they have no
+    // meaning.
     draft: Box<Page>,
     pages: Box<[Page; 3]>,
     ghost few: { length slots.items ≤ 64 },
@@ -35,7 +38,8 @@ impl Calls {
     ghost use Rattle.session_calls.specs.Sessions.{ready_count, slot_add, no_call};
     ghost use Rattle.session_calls.specs.Slots.{slot_of, has_call, one_vacuums, is_of_sets, session_to_begin, ChangesSlot, SlotBegins, SlotSteps, SlotGives, SlotEnds};
 
-    /// So many sessions, of which none runs a call. Refused with `BadLimits` (18) unless it is 1 to 64, and with `NoMemory` (1).
+    /// `sessions` sessions, of which none runs a call. Refused with `BadLimits` (18) unless their number is 1
+    /// to 64, and with `NoMemory` (1).
     pub fn new(alloc: Global, sessions: u32) -> Result<Calls, Fault>
         ensures slots { IfOk result (λ calls. calls.slots.items ≡ replicate sessions None) }
         ensures few { OnOk result ((1 ≤ sessions) × (sessions ≤ 64)) }
@@ -85,7 +89,8 @@ impl Calls {
         at < self.slots.len() && self.slots[at].is_busy()
     }
 
-    /// The number of the action that added the entry of the session's insert, where it runs one whose entry is added.
+    /// The number of the action that added the entry of the session's insert, if it runs one whose entry
+    /// is added.
     pub fn added(&self, session: u32) -> Option<u64>
         ensures { result ≡ slot_add (slot_of self.now.slots.items session) }
     {
@@ -96,7 +101,7 @@ impl Calls {
         self.slots[at].added()
     }
 
-    /// How many entries the session's scan has ready to be given. Where it runs none, there are none.
+    /// How many entries the session's scan has ready to be given. If it runs none, there are none.
     pub fn ready(&self, session: u32) -> u32
         ensures { result ≡ ready_count (slot_of self.now.slots.items session) }
     {
@@ -107,10 +112,10 @@ impl Calls {
         self.slots[at].ready()
     }
 
-    /// Begins a call of the session. Refused with the first of these that applies: `Stopped` (3), where the log failed before
-    /// or the count of calls begun is at its end; `NoSession` (12), where there is no such session, or not the set of dead rows
-    /// that is named; `SessionBusy` (13); `VacuumRunning` (11), for a bulk delete or a cleanup while a session runs either.
-    /// Nothing is changed then.
+    /// Begins a call of the session. Refused with the first of these that applies: `Stopped` (3), if the
+    /// log failed before or the count of calls begun is at its end; `NoSession` (12), if there is no such
+    /// session, or not the set of dead rows that is named; `SessionBusy` (13); `VacuumRunning` (11), for a
+    /// bulk delete or a cleanup while a session runs either. Nothing is changed then.
     pub fn begin<S: PageStore, T: DeadRows>(
         &mut self,
         store: &mut S,
@@ -152,11 +157,12 @@ impl Calls {
         }
     }
 
-    /// Makes one step of the session's call. Where the answer ends the call it has none afterwards, and what the session held
-    /// is let go. Refused with `NoSession` (12), or `Stopped` (3), where it has none; a refused step changes nothing, but that
-    /// the call is over, unless it was refused with `Blocked` (4) or `NoSession`.
+    /// Makes one step of the session's call. If the answer ends the call it has none afterwards, and what the
+    /// session held is let go. Refused with `NoSession` (12), or `Stopped` (3), if it has none. A refused
+    /// step ends the call, unless it was refused with `Blocked` (4) or `NoSession`. It changes nothing else.
     ///
-    /// A call that was asked for the rows of a set knows it by its place among the sets. These are the same at each step.
+    /// A call that was asked for the rows of a set knows it by its place among the sets. These are the same
+    /// at each step.
     pub fn step<S: PageStore, T: DeadRows>(
         &mut self,
         store: &mut S,
@@ -183,8 +189,8 @@ impl Calls {
         )
     }
 
-    /// Takes the next entry that the session's scan has ready, if there is one. Refused with `NoSession` (12) where it runs
-    /// none. Nothing else is changed.
+    /// Takes the next entry that the session's scan has ready, if there is one. Refused with `NoSession` (12)
+    /// if it runs none. Nothing else is changed.
     pub fn next(&mut self, session: u32) -> Answer
         ensures idle { has_call self.old.slots.items session ≡ false
             → (result ≡ no_call false) × (self.new ≡ self.old) }
@@ -197,8 +203,8 @@ impl Calls {
         moves::next(&mut self.slots[session as usize])
     }
 
-    /// Gives the session's call up: nothing is logged, and what it held is let go. Refused with `NoSession` (12) where it has
-    /// none.
+    /// Gives the session's call up: nothing is logged, and what it held is let go. Refused with `NoSession`
+    /// (12) if it has none.
     pub fn end<S: PageStore>(&mut self, store: &mut S, session: u32) -> Answer
         ensures steps { Continues S.follows store.old store.new }
         ensures idle { has_call self.old.slots.items session ≡ false
@@ -241,8 +247,8 @@ fn is_of_sets<T: DeadRows>(sets: &[T], request: &Request) -> bool
     }
 }
 
-// The session that may begin a call: refused where no call begins, then where there is none of this number or the set that is
-// named isn't there, then where it has a call.
+// The session that may begin a call: refused if no call begins, then if there is none of this number or
+// the set that is named isn't there, then if it has a call.
 fn find(is_stopped: bool, has_set: bool, slots: &[Slot], session: u32) -> Result<Session, Fault>
     requires few { length slots.now ≤ 64 }
     ensures { result ≡ session_to_begin is_stopped has_set (slice_get slots.now session) session }

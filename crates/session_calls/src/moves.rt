@@ -20,12 +20,13 @@ use index_model::{DeadRows, Fault};
 use page_action::PageStore;
 use page_codec::Page;
 
-/// Makes one step of a session's call. Where the answer ends the call, the slot is empty afterwards, and what the session
-/// held is let go. A slot with no call is refused with `NoSession` (12), or `Stopped` (3). A refused step changes nothing,
-/// but that the call is over, unless it was refused with `Blocked` or `NoSession`.
+/// Makes one step of a session's call. If the answer ends the call, the slot is empty afterwards, and what
+/// the session held is let go. A slot with no call is refused with `NoSession` (12), or `Stopped` (3). A
+/// refused step ends the call, unless it was refused with `Blocked` (4) or `NoSession`. It changes nothing
+/// else.
 ///
-/// A call that was asked for the rows of a set knows it by its place among the sets. These are the same at each of its steps.
-/// What the draft and the pages hold has no meaning.
+/// A call that was asked for the rows of a set knows it by its place among the sets. These are the same at
+/// each of its steps. What the draft and the pages hold has no meaning.
 pub(crate) fn step<S: PageStore, T: DeadRows>(
     store: &mut S,
     slot: &mut Slot,
@@ -63,7 +64,7 @@ pub(crate) fn step<S: PageStore, T: DeadRows>(
     answer
 }
 
-// Lets go what the session of a call holds that ends; and where it is a bulk delete, none runs now.
+// Lets go what the session of a call holds that ends; and if it is a bulk delete, none runs now.
 fn let_go<S: PageStore>(store: &mut S, op: &Op)
     ensures steps { Continues S.follows store.old store.new }
     ensures backing { S.backing store.new ≡ S.backing store.old }
@@ -86,8 +87,8 @@ fn is_last(answer: &Answer) -> bool
     }
 }
 
-/// The next entry that a session's scan has ready, or none. A call that is no scan, and a slot with no call, are refused
-/// with `NoSession` (12). Nothing else is changed.
+/// The next entry that a session's scan has ready, or none. A call that is no scan, and a slot with no call,
+/// are refused with `NoSession` (12). Nothing else is changed.
 pub(crate) fn next(slot: &mut Slot) -> Answer
     ensures idle { slot.old ≡ None → (slot.new ≡ None) × (result ≡ no_call false) }
     ensures kind { AnswersNext slot.old result }
@@ -113,8 +114,8 @@ pub(crate) fn next(slot: &mut Slot) -> Answer
     }
 }
 
-/// Gives a session's call up: nothing is logged, and what the session held is let go. A slot with no call is refused with
-/// `NoSession` (12).
+/// Gives a session's call up: nothing is logged, and what the session held is let go. A slot with no call is
+/// refused with `NoSession` (12).
 pub(crate) fn end<S: PageStore>(store: &mut S, slot: &mut Slot) -> Answer
     ensures steps { Continues S.follows store.old store.new }
     ensures idle { slot.old ≡ None → store.new ≡ store.old }

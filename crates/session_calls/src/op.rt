@@ -74,7 +74,7 @@ impl Op {
         matches!(self, Op::Bulk { .. })
     }
 
-    /// The number of the action that added its entry, where it is an insert whose entry is added.
+    /// The number of the action that added its entry, if it is an insert whose entry is added.
     pub fn added(&self) -> Option<u64>
         ensures { result ≡ add_of self.now }
     {
@@ -94,8 +94,8 @@ impl Op {
         }
     }
 
-    // One step. After an answer that is its last, what the session holds is still held. What the draft and the pages hold has no
-    // meaning.
+    // One step. After an answer that is its last, what the session holds is still held. What the draft and
+    // the pages hold has no meaning.
     pub(crate) fn step<S: PageStore, T: DeadRows>(
         &mut self,
         store: &mut S,

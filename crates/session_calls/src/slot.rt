@@ -7,8 +7,8 @@ use std::marker::Model;
 
 /// What a session runs, if anything: contracts see an `Option`.
 ///
-/// A call that is over stays where it was, and counts no longer: so an insert begins in the room of the last one, and neither
-/// its beginning nor its end fills the room of the largest kind of call.
+/// A call that is over stays where it was, and counts no longer: so an insert begins in the room of the last
+/// one, and neither its beginning nor its end fills the room of the largest kind of call.
 #[derive(Drop)]
 pub struct Slot {
     pub(crate) is_running: bool,
@@ -58,7 +58,7 @@ impl Slot {
         }
     }
 
-    /// The number of the action that added its call's entry, where that is an insert whose entry is added.
+    /// The number of the action that added its call's entry, if that is an insert whose entry is added.
     pub fn added(&self) -> Option<u64>
         ensures { result ≡ slot_add self.now }
     {

@@ -7,7 +7,8 @@ pub fn calls_are_undisturbed()
     ensures { CallsAreUndisturbed }
 {}
 
-/// Does nothing: its clause says that others whose acts leave its leaves leave a bulk delete what it is to remove.
+/// Does nothing: its clause says that others whose acts leave its leaves leave a bulk delete what it is to
+/// remove.
 pub fn deletions_are_undisturbed()
     ensures { DeletionsAreUndisturbed }
 {}

@@ -22,7 +22,7 @@ detour_few at target (Down position) = omega arith
 detour_few at target (Link position) = one_at_most (is_ready (at position.block) (suc target.level) target.separator)
 detour_few at target Root = one_at_most _
 
--- the walks that are left are few, since the targets are no more than levels
+-- the walks that are left are few, because the targets are no more than levels
 walks_few : (at : ℕ → Node) (op : FinishOp) → length op.below.items ≤ 31 → walks_left at op ≤ 66
 walks_few at op few =
     let many = length-append op.below.items (op.target ∷ []) in
@@ -40,7 +40,7 @@ walk_few st start most target (Down position) has stands =
 walk_few st start most target (Link position) has stands = omega arith
 walk_few st start most target Root has stands = omega arith
 
--- so many walks bring a call to the end of its splits
+-- 66 walks and one more bring a call to the end of its splits
 pub finish_bounded : (st : State) (op : FinishOp) (most : ℕ) → HasTree st → FinishInvariant st op → finish_left most st.pages op ≤ 66 * suc (walk_length most) + walk_length most
 finish_bounded st op most has fits =
     let low = low_level st fits.start op.target.level (bound_aim op.target.separator) true op.target.block has fits.newest.place in

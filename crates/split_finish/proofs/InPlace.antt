@@ -1,4 +1,5 @@
--- The parent and the page in the first two of three pages: as they are read there, and as they are changed there.
+-- The parent and the page in the first two of three pages: as they are read there, and as they are changed
+-- there.
 use Rattle.std.proofs.Common.{◌≡◌, ◌+◌, ◌++◌, ℕ, suc, List, [], ◌∷◌, length, take, slice_set, refl, sym, ap, subst, arith}
 use Rattle.split_finish.proofs.Imports.{slice_index_or, Bound, IsBlock, IsPage, IsBoundIn, Two, count_of, Items, Meta, Entries, Downlinks, Page, IsLinkAdded, with_links, HasLinks, FitsAfter}
 use Rattle.split_finish.proofs.Imports.{child_at, node_of, links_of, IsClear, IsLinkPlace}

@@ -1,4 +1,5 @@
--- In a tree there is a place for the downlink of a right half: a downlink leads to the left half, and the separator fits after it.
+-- In a tree there is a place for the downlink of a right half: a downlink leads to the left half, and the
+-- separator fits after it.
 use Rattle.std.proofs.Common.{◌≡◌, ◌≢◌, inl, inr, ℕ, zero, suc, ◌+◌, ◌<◌, Option, Some, None, List, [], ◌∷◌, ◌++◌, length, take, drop, slice_get, refl, sym, ap, subst, ◌∙◌, arith}
 use Rattle.page_codec.specs.declared.page.Downlink.{Downlink}
 use Rattle.tree_shape.specs.Laws.{HasLink}

@@ -90,7 +90,7 @@ pub ready_page : (st : State) (block level : ℕ) (separator : Bound) (page : Pa
 ready_page st block level separator page found alive whole is within =
     rw (node_there st.pages block page found, alive, whole, eq-eqb page.level level is, within) refl
 
--- where only targets had incomplete splits, and the newest isn't, only those below it are
+-- if only targets had incomplete splits, and the newest has none, only those below it have
 pub flags_popped : (old new : State) (before after : FinishOp) → Popped before after Going → OnlyTargetsAreIncomplete old (targets_of before)
     → ((block : ℕ) → is_incomplete new block ≡ true → (is_incomplete old block ≡ true) × (before.target.block ≡ block → ⊥)) → OnlyTargetsAreIncomplete new (targets_of after)
 flags_popped old new before after popped h were block k =

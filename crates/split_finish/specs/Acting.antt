@@ -81,7 +81,8 @@ pub record MeetsParent (st : State) (honest : Bool) (op : FinishOp) (page parent
   pub read_parent : IsReadToChange st honest op.session position.block parent
   pub ready : IsReadyToLink page parent op op
 
--- the first two of three pages are the parent, block `above`, and the page of the other block, as they were read
+-- the first two of three pages are the parent, block `above`, and the page of the other block, as they were
+-- read
 pub record AreRead (st : State) (honest : Bool) (session block above : ℕ) (pages : List Page)
     : Type 0 where
   pub parent : Page
@@ -114,8 +115,8 @@ pub record MeetsRoot (st : State) (honest : Bool) (op : FinishOp) (meta page : P
   pub read : IsReadToChange st honest op.session op.target.block page
   pub ready : IsReadyToGrow meta page op op
 
--- What the part of a step does that stands after its readings: what a step does, but that the log
--- may have stopped before.
+-- What the part of a step that comes after its readings does: what a step does, except that the log may have
+-- stopped before.
 pub record FinishActs {S : Type 0} (g : Ghosts S) (before after : FinishOp) (old new : S)
     (result : Result FinishStep Fault) : Type 0 where
   pub steps : Continues g.follows old new

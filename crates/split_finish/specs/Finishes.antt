@@ -25,7 +25,7 @@ use Rattle.split_finish.specs.declared.finish.Target.{Target}
 abbrev pub OnlyShapes : Option Effect → Type 0
 OnlyShapes effect = (effect ≡ None) ⊎ (effect ≡ Some Shape)
 
--- a step that goes on: where only targets had incomplete splits, only targets are
+-- a step that goes on: if only targets had incomplete splits, only targets have them still
 pub record FinishContinues (old new : State) (before after : FinishOp) : Type 0 where
   pub effect : Option Effect
   pub shapes : OnlyShapes effect
@@ -49,20 +49,22 @@ abbrev pub is_full_parent : ℕ → Option Page → Bool
 is_full_parent items None = false
 is_full_parent items (Some page) = nat_le items (length (links_of page.items))
 
--- the blocks that are written where the target's downlink is put on this page: that of the page, and of the target, whose split
--- is finished; where it is full, of its right half and its right sibling too
+-- the blocks that are written when the target's downlink is put on this page: that of the page, and of the
+-- target, whose split is finished; if it is full, of its right half and its right sibling too
 abbrev pub blocks_linked : State → Target → ℕ → Option Page → List ℕ
 blocks_linked st target parent None = parent ∷ target.block ∷ []
 blocks_linked st target parent (Some page) = if nat_le st.limits.items (length (links_of page.items))
     then parent ∷ fresh_block st ∷ sibling page.right ++ target.block ∷ []
     else parent ∷ target.block ∷ []
 
--- a step puts the target's downlink on the page of this way: the target is as its page says, and the page is ready for it
+-- a step puts the target's downlink on the page of this way: the target is as its page says, and the page is
+-- ready for it
 abbrev pub is_to_link : State → Target → Position → Bool
 is_to_link st target position = is_as_read (nodes_of st.pages) target
     && is_ready (nodes_of st.pages position.block) (suc target.level) target.separator
 
--- a step makes a new root over the target: that is as its page says, and on the root's level still, below the highest
+-- a step makes a new root over the target: that is as its page says, and on the root's level still, below the
+-- highest
 abbrev pub is_to_grow : State → Target → Bool
 is_to_grow st target = is_as_read (nodes_of st.pages) target
     && (root_level st.pages == target.level) && nat_lt target.level 31
@@ -88,8 +90,8 @@ takes_block_of st target (Link position) = is_to_link st target position
     && is_full_parent st.limits.items (slice_get st.pages position.block)
 takes_block_of st target Root = is_to_grow st target
 
--- why a step is refused of a call that stands there with this newest target, on pages that are a tree and a device that keeps
--- its model
+-- why a step is refused of a call that stands there with this newest target, on pages that are a tree and a
+-- device that keeps its model
 abbrev pub causes_of_finishing : State → Backing → Backing → ℕ → Target → FinishAt → Circumstances
 causes_of_finishing st old new session target at =
     causes_of_working st old new session (finish_blocks st target at) (frames_of st target at)
@@ -110,9 +112,10 @@ pub record FinishStays (old new : State) (before after : FinishOp) : Type 0 wher
   pub state : new ≡ old
   pub op : after ≡ before
 
--- A step by which splits are finished. On any pages: it does one act at most and holds nothing after it, a refused one
--- changes nothing, and a stopped log refuses it. On any pages, over a device that keeps its model: one that goes on without
--- an act leaves less to do. On pages in order: what it does, and why it is refused.
+-- A step by which splits are finished. On any pages: it does one act at most and holds nothing after it, a
+-- refused one changes nothing, and a stopped log refuses it. On any pages, over a device that keeps its
+-- model: one that goes on without an act leaves less to do. On pages in order: what it does, and why it is
+-- refused.
 pub record FinishSteps {S : Type 0} (g : Ghosts S) (before after : FinishOp) (old new : S)
     (result : Result FinishStep Fault) : Type 0 where
   pub steps : Continues g.follows old new

@@ -1,4 +1,5 @@
--- Splits to be finished: the pages that a call has met with an incomplete split, and what is left to do for them.
+-- Splits to be finished: the pages that a call has met with an incomplete split, and what is left to do for
+-- them.
 use Rattle.std.specs.Prelude.{◌≡◌, ℕ, suc, ◌+◌, ◌-◌, ◌*◌, ◌<◌, ◌≤◌, ◌&&◌, ◌||◌, ◌==◌, not, if◌then◌else◌, Bool, true, false, Option, Some, None, List, [], ◌∷◌, ◌++◌, length, slice_get}
 use Rattle.std.specs.Ordering.{is_eq}
 use Rattle.index_model.specs.Order.{bound_cmp}
@@ -30,7 +31,8 @@ abbrev pub OnlyTargetsAreIncomplete : State → List Target → Type 0
 OnlyTargetsAreIncomplete st targets = (block : ℕ) → is_incomplete st block ≡ true
     → is_among_targets targets block ≡ true
 
--- a target's block is a place for its separator, not right after a page with an incomplete split; and its level is at least this one
+-- a target's block is a place for its separator, not right after a page with an incomplete split; and its
+-- level is at least this one
 pub record IsTarget (st : State) (start least : ℕ) (target : Target) : Type 0 where
   pub high_enough : least ≤ target.level
   pub place : LeadsTo st start target.level (bound_aim target.separator) true target.block
@@ -45,8 +47,9 @@ FinishStands st start target (Link position) =
     × IsOnDescent st start (bound_aim target.separator) true (suc target.level) position
 FinishStands st start target Root = Unit {0}
 
--- What a call knows between the steps by which it finishes splits: it holds nothing, it runs with a start number, and each
--- target is one still, on a level that is at least its place among them. So there are never more than levels.
+-- What a call knows between the steps by which it finishes splits: it holds nothing, it runs with a start
+-- number, and each target is one still, on a level that is at least its place among them. So there are never
+-- more than levels.
 pub record FinishInvariant (st : State) (op : FinishOp) : Type 0 where
   pub session : op.session < 64
   pub free : holding_of st.table op.session ≡ nothing_held
@@ -62,7 +65,7 @@ abbrev pub ends_at : Option Bound → Bound → Bool
 ends_at None bound = false
 ends_at (Some high) bound = is_eq (bound_cmp high bound)
 
--- the target is as its page says: with an incomplete split, and with this high key
+-- the target is as its page says: the page has an incomplete split, and this high key
 abbrev pub is_as_read : (ℕ → Node) → Target → Bool
 is_as_read at target =
     (at target.block).split && ends_at (at target.block).high target.separator
@@ -73,7 +76,8 @@ stale_count at [] = 0
 stale_count at (target ∷ targets) =
     (if is_as_read at target then 0 else 1) + stale_count at targets
 
--- a live page of this level, without an incomplete split, whose high key isn't below the separator: a downlink may be put on it
+-- a live page of this level, without an incomplete split, whose high key isn't below the separator: a
+-- downlink may be put on it
 abbrev pub is_ready : Node → ℕ → Bound → Bool
 is_ready node level separator = is_live node.state && not node.split && (node.level == level)
     && is_within (bound_aim separator) node.high
@@ -89,8 +93,8 @@ detour at target (Down position) = 0
 detour at target (Link position) = one_unless (is_ready (at position.block) (suc target.level) target.separator)
 detour at target Root = one_unless ((at 0).level == target.level)
 
--- how many walks from the metapage there are still, at most: each brings a new target, or is done with one, or finds a
--- page other than it was
+-- how many walks from the metapage there are still, at most: each brings a new target, or is done with one,
+-- or finds a page other than it was
 abbrev pub walks_left : (ℕ → Node) → FinishOp → ℕ
 walks_left at op = (33 + (2 * stale_count at (targets_of op) + detour at op.target op.at))
     - length (targets_of op)
@@ -102,7 +106,7 @@ walk_left most (Down position) = way_left most position
 walk_left most (Link position) = 0
 walk_left most Root = 0
 
--- what is left to do, in steps, while the pages are as they are and there are at most so many
+-- what is left to do, in steps, while the pages are as they are and there are `most` at most
 abbrev pub finish_left : ℕ → List Page → FinishOp → ℕ
 finish_left most pages op =
     walks_left (nodes_of pages) op * suc (walk_length most) + walk_left most op.at

@@ -46,20 +46,21 @@ pub record Retaken (separator : Bound) (at : FinishAt) (before after : FinishOp)
   pub at_is : after.at ≡ at
   pub session : after.session ≡ before.session
 
--- a turn that goes on: less is left to do, the call stands where it may, and only targets have incomplete splits
+-- a turn that goes on: less is left to do, the call stands where it may, and only targets have incomplete
+-- splits
 pub record TurnContinues (st : State) (before after : FinishOp) : Type 0 where
   pub less : finish_left st.limits.pages st.pages after < finish_left st.limits.pages st.pages before
   pub fits : HasTree st → FinishInvariant st before → FinishInvariant st after
   pub flags : OnlyTargetsAreIncomplete st (targets_of before) → OnlyTargetsAreIncomplete st (targets_of after)
 
--- the last turn: the only target needn't be finished, so as much was left to do as before the first step for it; and if only
--- targets had incomplete splits, no page is
+-- the last turn: the only target needn't be finished, so as much was left to do as before the first step for
+-- it; if only targets had incomplete splits, no page has one
 pub record TurnIsOver (st : State) (before : FinishOp) : Type 0 where
   pub over : 34 * suc (walk_length st.limits.pages) ≤ finish_left st.limits.pages st.pages before
   pub flags : OnlyTargetsAreIncomplete st (targets_of before) → (block : ℕ) → is_incomplete st block ≡ false
 
--- whether a step that stands there with this newest target is to split the root: the target has an incomplete split still, and on the
--- root's level
+-- whether a step that stands there with this newest target is to split the root: the target has an incomplete
+-- split still, and on the root's level
 abbrev pub splits_root_of : State → Target → FinishAt → Bool
 splits_root_of st target Start = false
 splits_root_of st target (Down position) = false
@@ -80,7 +81,7 @@ Turned st before after (Ok Done) = TurnIsOver st before
 Turned st before after (Err fault) =
     HasTree st → FinishInvariant st before → HasCause (causes_of_turned st before.target before.at) fault
 
--- ... where it may also answer that an act is to be done
+-- ... or it answers that an act is to be done
 abbrev pub TurnedOrReady : State → FinishOp → FinishOp → Result (Option FinishStep) Fault → Type 0
 TurnedOrReady st before after (Ok None) = Unit {0}
 TurnedOrReady st before after (Ok (Some step)) = Turned st before after (Ok step)

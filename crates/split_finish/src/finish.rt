@@ -1,4 +1,4 @@
-//! The call, and which step it makes next.
+//! The call that finishes splits, and which step it makes next.
 
 ghost use Rattle.std.specs.Prelude.{◌≡◌, [], IfErr};
 ghost use Rattle.index_model.specs.Faults.{HasCause};
@@ -86,10 +86,10 @@ impl FinishOp {
         }
     }
 
-    /// Makes one step. Refused with `Blocked` (4), and the same step may be made again; with `IndexFull` (8), `Io` (2),
-    /// `Stopped` (3), `LogFull` (9), `NoFrame` (10); with `TooTall` (19) where the root is split on level 31; with
-    /// `PageDamaged` (17) on pages that are no tree. A refused step changes nothing. `pages` is room for the pages of an act:
-    /// what they hold has no meaning, neither before nor after.
+    /// Makes one step. Refused with `Blocked` (4), and the same step may be made again; with `IndexFull` (8),
+    /// `Io` (2), `Stopped` (3), `LogFull` (9), `NoFrame` (10); with `TooTall` (19) if the root is split on
+    /// level 31; with `PageDamaged` (17) on pages that are no tree. A refused step changes nothing. `pages`
+    /// is room for the pages of an act: what they hold has no meaning, neither before nor after.
     pub fn step<S: PageStore>(
         &mut self,
         store: &mut S,

@@ -28,8 +28,8 @@ pub fn place_behind(parent: &Page, child: u32, separator: &Bound) -> Option<usiz
 }
 
 impl FinishOp {
-    // Puts the downlink of the right half on the parent, this page, if it is one still. The parent is read into the first of
-    // `pages`, and the left half into the second: what is read there is changed there.
+    // Puts the downlink of the right half on the parent, this page, if it is one still. The parent is read
+    // into the first of `pages`, and the left half into the second: what is read there is changed there.
     pub fn link<S: PageStore>(
         &mut self,
         store: &mut S,
@@ -77,7 +77,7 @@ impl FinishOp {
         }
     }
 
-    // ... where the page is the target as it was read, and the parent is ready.
+    // ... if the page is the target as it was read, and the parent is ready.
     fn put_link<S: PageStore>(
         &mut self,
         store: &mut S,

@@ -17,7 +17,7 @@ use page_action::PageStore;
 use page_codec::Page;
 use tree_shape::{clear_split, mend_left, split_links};
 
-/// The left half of a page, whose split is to be finished; None where it has no high key.
+/// The left half of a page, whose split is to be finished; None if it has no high key.
 pub fn half_to_finish(left: &Page) -> Option<Target>
     ensures target { IfSome result (λ t. (t.block ≡ left.now.block) × (t.level ≡ left.now.level)
         × (left.now.high ≡ Some t.separator)) }
@@ -33,8 +33,8 @@ pub fn half_to_finish(left: &Page) -> Option<Target>
     }
 }
 
-// Acts on the halves of the parent, the page to the right of them, whose left link is mended, and the page whose split is
-// finished.
+// Acts on the halves of the parent, the page to the right of them, whose left link is mended, and the page
+// whose split is finished.
 fn act_on_halves<S: PageStore>(
     store: &mut S,
     left: Page,

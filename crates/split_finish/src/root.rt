@@ -32,8 +32,8 @@ fn grown(meta: Page, page: Page, separator: Bound, new: u32, fresh: u32) -> [Pag
 }
 
 impl FinishOp {
-    // Makes a new root over the newest target, if that is the root still. Few steps do: those that don't are spared the room for
-    // its pages.
+    // Makes a new root over the newest target, if that is the root still. Few steps do: those that don't are
+    // spared the room for its pages.
     #[inline(never)]
     pub fn grow<S: PageStore>(&mut self, store: &mut S) -> Result<FinishStep, Fault>
         requires { self.old.at ≡ FinishAt.Root }
@@ -78,7 +78,7 @@ impl FinishOp {
         }
     }
 
-    // ... where the page is the target as it was read, and the root.
+    // ... if the page is the target as it was read, and the root.
     fn put_root<S: PageStore>(
         &mut self,
         store: &mut S,

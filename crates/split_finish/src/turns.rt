@@ -17,8 +17,8 @@ use page_codec::{Items, Page, PageState};
 use std::cmp::Ordering;
 use tree_shape::SearchKey;
 
-// Whether a downlink for the separator may be put on the page: it is live, without an incomplete split, one level above this one,
-// and the separator lies within its high key.
+// Whether a downlink for the separator may be put on the page: it is live, without an incomplete split, one
+// level above this one, and the separator lies within its high key.
 fn is_ready(page: &Page, below: u8, separator: Bound) -> bool
     ensures { result ≡ is_ready (node_of page.now) (suc below) separator }
 {
@@ -170,7 +170,7 @@ impl FinishOp {
         Ok(FinishStep::Going)
     }
 
-    // Before a downlink is put on the parent: None where all is as it is to be for that.
+    // Before a downlink is put on the parent: None if all is as it is to be for that.
     pub fn turn_at_parent(
         &mut self,
         page: &Page,
@@ -208,7 +208,7 @@ impl FinishOp {
         Ok(Some(FinishStep::Going))
     }
 
-    // Before a new root is made: None where all is as it is to be for that.
+    // Before a new root is made: None if all is as it is to be for that.
     pub fn turn_at_root(&mut self, meta: &Page, page: &Page) -> Result<Option<FinishStep>, Fault>
         requires { self.old.at ≡ FinishAt.Root }
         ensures session { self.new.session ≡ self.old.session }

@@ -7,7 +7,7 @@ use Rattle.tree_acts.proofs.Imports.{stored_page, KeyBefore, IsUniquePage, AreUn
 use Rattle.tree_acts.proofs.Uniques.{unique_at, unique_shows}
 use Rattle.tree_acts.proofs.Words.{contents_held}
 
--- entries of these are one where they share a key
+-- entries of these are one if they share a key
 abbrev DifferIn : List Entry → Type 0
 DifferIn es = KeysDiffer (is_among es)
 
@@ -41,7 +41,7 @@ keys_ascend : (es : List Entry) → IsAscending es → DifferIn es → Ascends K
 keys_ascend [] ascends differ = tt
 keys_ascend (x ∷ xs) ascends differ = follows x xs ascends.1 differ
 
--- ... of a page, where no two entries share a key that are there
+-- ... of a page, if no two entries share a key that are there
 leaf_keys : (state : PageState) (page : Page) (es : List Entry) → IsLeafIn state page es → DifferIn (entries_alive state es) → Ascends KeyBefore es
 leaf_keys Live page es leaf differ = keys_ascend es leaf.entries.ascends differ
 leaf_keys HalfDead page es leaf differ = subst (λ (l : List Entry). Ascends KeyBefore l) (sym leaf.entries) tt

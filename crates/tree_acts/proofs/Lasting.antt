@@ -172,7 +172,7 @@ pub record MetaIs (pages : List Page) (root top : ℕ) : Type 0 where
   pub names : IsMetaOf meta root meta.level
   pub level_is : meta.level ≡ top
 
--- pages that are unique stay so, where those of an act are
+-- pages that are unique stay so, if those of an act are
 unique_set : (pages : List Page) (page : Page) (b : ℕ) → AreUnique pages → IsUniquePage page → AreUnique (slice_set pages b page)
 unique_set [] page b h one = h
 unique_set (p ∷ pages) page zero h one = (one, h.1)
@@ -245,7 +245,8 @@ lasts st changed h may one_a_key live Ok one ok running root' top' taller meta g
       is = rw (meta.level_is) ((goes least good).tree);
     }
 
--- ... also where a page of a chain is deleted, later than each running call began; lows are as they are whichever numbers count
+-- ... also if a page of a chain is deleted, later than each running call began; lows are as they are
+-- whichever numbers count
 pub lasts_without : (st : State) (changed : List Page) (h : HasTree st) → AreActable st.limits (length st.pages) changed
     → (st.limits.unique ≡ true → AreUnique changed) → CountUpTo st.begun changed → KeptDeletedLeadOn (after_act changed st)
     → (late : ℕ) → ((start : ℕ) → IsStart st.running start → start < late)

@@ -43,7 +43,8 @@ leaves_same st new same cycle = record {
   others = λ b new_page at. inl (record { page = new_page; was = subst (λ (ps : List Page). IsLeafAt ps b new_page) same at });
 }
 
--- a page with the state, right link and cycle number of the one that stood there, and no entry but the one that is added
+-- a page with the state, right link and cycle number of the one that stood there, and no entry but the one
+-- that is added
 record IsAlike (effect : Option Effect) (st : State) (x : Page) : Type 0 where
   pub old : Page
   pub found : slice_get st.pages x.block ≡ Some old

@@ -270,7 +270,7 @@ neighbour_shows st start level aim clear page right h found place alive is =
       apart = right_is_another st h.tree level page.block right on.in_tree on.on_chain link;
     }
 
--- where no page has an incomplete split, none that is seen is
+-- if no page has an incomplete split, nothing that the tree sees of a page says that it has one
 none_incomplete : (pages : List Page) → NoneIsIncomplete pages → (b : ℕ) → (nodes_of pages b).split ≡ false
 none_incomplete pages whole b = go (slice_get pages b) refl
   where

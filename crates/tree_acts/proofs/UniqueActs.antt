@@ -1,4 +1,4 @@
--- The pages that an act writes on a unique index are pages of one, since those that stood there are.
+-- The pages that an act writes on a unique index are pages of one, because those that stood there are.
 use Rattle.std.proofs.Common.{◌≡◌, ℕ, suc, Bool, true, Option, Some, None, List, [], ◌∷◌, ◌++◌, sym, subst}
 use Rattle.tree_shape.specs.KeyBounds.{IsKeyBound}
 use Rattle.tree_acts.proofs.Imports.{IfSome, IsNone, AllByRecursion, Bound, Entry, AllByRecursion-append, entries_of, Ascends, IsMeta, IsOfKind, Items, Page, State, KeyBefore, IsKeyLink}

@@ -10,7 +10,7 @@ level_with Meta level = level
 level_with (Entries entries) level = 0
 level_with (Downlinks links) level = level
 
--- the level of a page, or 0 where there is none
+-- the level of a page, or 0 if there is none
 abbrev pub level_of : Option Page → ℕ
 level_of None = 0
 level_of (Some page) = level_with page.items page.level

@@ -1,4 +1,5 @@
--- A tree that many sessions share: what the steps of one session's call do to it, and what the others may rely on meanwhile.
+-- A tree that many sessions share: what the steps of one session's call do to it, and what the others may
+-- rely on meanwhile.
 use Rattle.std.specs.Prelude.{◌≡◌, ◌≢◌, ◌⊎◌, ℕ, zero, suc, ◌+◌, ◌≤◌, ◌<◌, ◌||◌, ◌&&◌, not, Bool, true, false, nat_lt, nat_le, Option, Some, None, if◌then◌else◌, ◌==◌, List, [], ◌∷◌, map, length, slice_get}
 use Rattle.std.specs.List.{list_any}
 use Rattle.index_model.specs.Actions.{Effect, Add, Remove, Shape}
@@ -28,16 +29,16 @@ pub record IsInOrder (st : State) : Type 0 where
   pub holdings : length st.table ≡ 64
   pub calls : length st.running ≡ 64
 
--- a call with this start number goes on from the page numbers that it keeps: each is a place still, and its walk still has
--- come to it
+-- a call with this start number goes on from the page numbers that it keeps: each is a place still, and its
+-- walk still has come to it
 pub record NumbersStay (start : ℕ) (old new : State) : Type 0 where
   pub places : (level : ℕ) (aim : Bound → Bool) (clear : Bool) (block : ℕ) → IsAim aim
       → LeadsTo old start level aim clear block → LeadsTo new start level aim clear block
   pub trails : (level block moves : ℕ) → HasTrail old start level block moves
       → HasTrail new start level block moves
 
--- what a session may rely on while others act: its latches and pins, its start number, the pages that it holds alone, the
--- page numbers that its call keeps, and that no low rises
+-- what a session may rely on while others act: its latches and pins, its start number, the pages that it
+-- holds alone, the page numbers that its call keeps, and that no low rises
 pub record MayRely (session : ℕ) (old new : State) : Type 0 where
   pub held : holding_of new.table session ≡ holding_of old.table session
   pub number : slice_get new.running session ≡ slice_get old.running session
@@ -51,7 +52,7 @@ pub record MayRely (session : ℕ) (old new : State) : Type 0 where
 abbrev pub OthersRely : ℕ → State → State → Type 0
 OthersRely session old new = (other : ℕ) → other ≢ session → MayRely other old new
 
--- whether the page of the block has an incomplete split: its split isn't finished
+-- whether the page of the block has an incomplete split: its right half has no downlink yet
 abbrev pub is_incomplete : State → ℕ → Bool
 is_incomplete st block = (nodes_of st.pages block).split
 
@@ -59,19 +60,20 @@ is_incomplete st block = (nodes_of st.pages block).split
 abbrev pub level_in : State → ℕ → ℕ
 level_in st block = (nodes_of st.pages block).level
 
--- a page has an incomplete split that wasn't, if there is one, and it is of this level
+-- the page, if there is one, had no incomplete split before, and is of this level
 abbrev pub IsRaised : State → State → ℕ → Option ℕ → Type 0
 IsRaised old new level None = Unit {0}
 IsRaised old new level (Some b) = (is_incomplete old b ≡ false) × (level_in new b ≡ level)
 
--- an entry is put on a leaf; where that is split for it, it has an incomplete split
+-- an entry is put on a leaf; if the leaf is split for it, the leaf has an incomplete split
 pub record SplitsALeaf (old new : State) : Type 0 where
   pub raised : Option ℕ
   pub leaf : IsRaised old new 0 raised
   pub moves : FlagsMove raised None old new
   pub most : weight new ≤ weight old + 32
 
--- a split is finished: one page's flag is cleared, and one page at most has an incomplete split, one level higher; so less is left to do
+-- a split is finished: one page has no incomplete split any more, and one page at most gets one, one level
+-- higher; so less is left to do
 pub record FinishesASplit (old new : State) : Type 0 where
   pub cleared : ℕ
   pub was : is_incomplete old cleared ≡ true
@@ -87,9 +89,9 @@ MovesFlags (Some (Add e)) old new = SplitsALeaf old new
 MovesFlags (Some (Remove es)) old new = FlagsMove None None old new
 MovesFlags (Some Shape) old new = FinishesASplit old new
 
--- A step of this session's call, with one effect at most: the pages are a tree again, flags move as the effect says, leaves
--- stay or are split as a bulk delete beside it needs, calls and limits are as they were, and every other session may rely on
--- what it held.
+-- A step of this session's call, with one effect at most: the pages are a tree again; flags move as the
+-- effect says; leaves stay, or are split as a bulk delete beside it needs; calls and limits are as they were;
+-- every other session may rely on what it held.
 pub record StepEffect (session : ℕ) (effect : Option Effect) (old new : State) : Type 0 where
   pub changes : HasEffect effect old new
   pub flags : MovesFlags effect old new
@@ -101,7 +103,8 @@ pub record StepEffect (session : ℕ) (effect : Option Effect) (old new : State)
   pub order : IsInOrder new
   pub others : OthersRely session old new
 
--- one live leaf became half-dead, or one half-dead leaf was deleted, and no other page's state is changed, nor any flag
+-- one live leaf became half-dead, or one half-dead leaf was deleted, and no other page's state is changed,
+-- nor any flag
 pub record DeletesALeaf (old new : State) : Type 0 where
   pub leaf : OneLeafDies old new ⊎ OneLeafIsDeleted old new
   pub flags : SameSplits old new
@@ -115,9 +118,9 @@ DeletesLeaves (Some (Add e)) old new = ⊥
 DeletesLeaves (Some (Remove es)) old new = ⊥
 DeletesLeaves (Some Shape) old new = DeletesALeaf old new
 
--- A step of this session's cleanup, with one act at most: the contents are as they were, the pages are a tree again, where
--- it acts one leaf goes on its way out of the tree, calls, limits and the cycle number are as they were, and every other
--- session may rely on what it held.
+-- A step of this session's cleanup, with one act at most: the contents are as they were, and the pages are a
+-- tree again; if it acts, one leaf goes on its way out of the tree; calls, limits and the cycle number are as
+-- they were, and every other session may rely on what it held.
 pub record CleanupEffect (session : ℕ) (effect : Option Effect) (old new : State) : Type 0 where
   pub changes : HasEffect effect old new
   pub deletes : DeletesLeaves effect old new
@@ -129,8 +132,8 @@ pub record CleanupEffect (session : ℕ) (effect : Option Effect) (old new : Sta
   pub order : IsInOrder new
   pub others : OthersRely session old new
 
--- On any pages a step does one act at most, and with none it changes nothing but latches and pins; limits, frames and calls
--- are as they were.
+-- On any pages a step does one act at most, and with none it changes nothing but latches and pins; limits,
+-- frames and calls are as they were.
 pub record IsOneActAtMost (old new : State) : Type 0 where
   pub acts : (new.acts ≡ old.acts) ⊎ (new.acts ≡ suc old.acts)
   pub quiet : new.acts ≡ old.acts → new ≡ with_table old new.table
@@ -139,7 +142,7 @@ pub record IsOneActAtMost (old new : State) : Type 0 where
   pub begun : new.begun ≡ old.begun
   pub running : new.running ≡ old.running
 
--- one of the first so many blocks may be used again
+-- one of the blocks below a number may be used again
 abbrev pub any_is_reusable : State → ℕ → Bool
 any_is_reusable st zero = false
 any_is_reusable st (suc block) = is_reusable st block || any_is_reusable st block
@@ -169,8 +172,8 @@ count_new waiting (block ∷ blocks) =
     then count_new waiting blocks
     else suc (count_new waiting blocks)
 
--- there is no room for one image of each of these blocks: no more are promised, and those of them that don't wait are more than
--- there is room for
+-- there is no room for one image of each of these blocks: no more are promised, and those of them that don't
+-- wait are more than there is room for
 abbrev pub lacks_room : Backing → Backing → List ℕ → Bool
 lacks_room old new blocks =
     nat_le old.promised (length blocks) && nat_lt new.room (count_new new.waiting blocks)
@@ -181,7 +184,7 @@ causes_of_acting st old new changed = record (causes_of_acted st old new changed
   log_is_full = lacks_room old new (map (λ page. page.block) changed);
 }
 
--- how many frames a step needs that writes these blocks: one where it only reads
+-- how many frames a step needs that writes these blocks: one if it only reads
 abbrev pub frames_for : List ℕ → ℕ
 frames_for [] = 1
 frames_for (block ∷ blocks) = suc (length blocks)
@@ -191,8 +194,8 @@ abbrev pub sibling : Option ℕ → List ℕ
 sibling None = []
 sibling (Some block) = block ∷ []
 
--- Why a step is refused that reads pages of a tree, and may do an act that writes these blocks, and needs so many frames beside
--- those that are pinned; and whether it may take a block, and split the root.
+-- Why a step is refused that reads pages of a tree, and may do an act that writes these blocks, and needs
+-- `frames` frames beside those that are pinned; and whether it may take a block, and split the root.
 abbrev pub causes_of_working : State → Backing → Backing → ℕ → List ℕ → ℕ → Bool → Bool → Circumstances
 causes_of_working st old new session images frames takes splits = record nothing_wrong {
   device_failed = has_failed old new;
@@ -205,7 +208,7 @@ causes_of_working st old new session images frames takes splits = record nothing
   root_is_at_31 = splits && nat_le 31 (root_level st.pages);
 }
 
--- what may be so where a step is refused that only reads, whatever the pages are
+-- what may be so if a step is refused that only reads, whatever the pages are
 abbrev pub causes_of_reading_any : Circumstances
 causes_of_reading_any = record nothing_wrong {
   device_failed = true;

@@ -12,13 +12,13 @@ use Rattle.page_action.specs.States.{State, with_table}
 abbrev pub HoldsAlone : Table → ℕ → ℕ → Type 0
 HoldsAlone table session block = latches_exclude (holding_of table session).latches block Shared ≡ true
 
--- where one session holds a block alone, no other latches it
+-- if one session holds a block alone, no other latches it
 abbrev pub AreApart : Table → Type 0
 AreApart table = (session other block : ℕ) → session ≢ other → HoldsAlone table session block
     → latches_exclude (holding_of table other).latches block Exclusive ≡ false
 
--- an effect that may be, by what was there: an entry is added that wasn't; entries are removed, one or more, ascending, that
--- were; or the shape of the pages is changed
+-- an effect that may be, by what was there: an entry is added that wasn't there; one or more entries are
+-- removed, ascending, that were there; or the shape of the pages is changed
 abbrev pub IsApt : (Entry → Bool) → Effect → Type 0
 IsApt was_there (Add e) = was_there e ≡ false
 IsApt was_there (Remove es) = (es ≢ []) × IsAscending es × ((e : Entry) → is_among es e ≡ true → was_there e ≡ true)

@@ -15,6 +15,6 @@ pub record AreKeyed (pages : List Page) : Type 0 where
       → AllByRecursion (λ d. IfSome d.bound (λ s. s.row ≡ None)) (nodes_of pages b).links
   pub keys : KeysDiffer (entry_on_live_leaf pages)
 
--- the pages are a B-link tree, and keyed where the format says that the index is unique
+-- the pages are a B-link tree, and keyed if the format says that the index is unique
 abbrev pub IsTreeFor : Format → List Page → Type 0
 IsTreeFor format pages = IsTree pages × (format.unique ≡ true → AreKeyed pages)

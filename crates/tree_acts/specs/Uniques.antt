@@ -1,4 +1,5 @@
--- What a unique index tells: the leaf that covers an entry decides of its key, and no two entries share a key.
+-- What a unique index tells: the leaf that covers an entry decides of its key, and no two entries share a
+-- key.
 use Rattle.std.specs.Prelude.{◌≡◌, ◌↔◌, true, false, Some, List, slice_get}
 use Rattle.index_model.specs.Actions.{KeysDiffer}
 use Rattle.index_model.specs.Order.{is_among}
@@ -31,13 +32,14 @@ FreeKeyShows =
     → HasCover st 0 (entry_aim e) page.block → IsKeyFree e.key (entries_of page.items)
     → x.key ≡ e.key → entry_on_live_leaf st.pages x ≡ false
 
--- where the pages of a tree are those of a unique index, no two of its entries share a key
+-- if the pages of a tree are those of a unique index, no two of its entries share a key
 abbrev pub UniqueShows : Type 0
 UniqueShows =
     (limits : Format) (pages : List Page) → IsTree pages → AreStored limits 0 pages
     → AreUnique pages → KeysDiffer (entry_on_live_leaf pages)
 
--- ... so that pages of a unique index by themselves are keyed, and where pages are keyed each of them is one of a unique index
+-- ... so that pages of a unique index by themselves are keyed, and if pages are keyed each of them is one
+-- of a unique index
 abbrev pub KeyedShows : Type 0
 KeyedShows =
     (limits : Format) (pages : List Page) → IsTree pages → AreStored limits 0 pages

@@ -1,4 +1,4 @@
--- Where none of the two entries beside an entry's place has its key, none has.
+-- If none of the two entries beside an entry's place has its key, none has.
 use Rattle.std.proofs.Common.{◌≡◌, ◌≢◌, ℕ, zero, suc, ◌≤◌, ◌||◌, Bool, true, false, Option, Some, None, List, [], ◌∷◌, length, slice_get, take, drop, refl, sym, ap, subst, ◌∙◌, arith}
 use Rattle.index_model.specs.Row.{Row}
 use Rattle.tree_shape.proofs.Imports.{nat_list_cmp_total, exact_bytes, take-append-drop, IfNone, IsTotalOrder, AllByRecursion, option_cmp, is_lt, ordering_then, ordering_reverse, Ordering, Less}
@@ -70,7 +70,7 @@ row_there key found es at got same = subst (λ (k : List ℕ). is_among es (reco
     among (x ∷ xs) zero got = (let is : x ≡ found = cc in rw (subst (λ (z : Entry). same_entry z found ≡ true) (sym is) (same_entry-self found)) refl)
     among (x ∷ xs) (suc n) got = rw (among xs n got) (or_true (same_entry x found))
 
--- what follows where none is found
+-- what follows if none is found
 pub free_if : {P Q : Type 0} (found : Option Row) → (P → Q) → IfNone found P → IfNone found Q
 free_if None f h = f h
 free_if (Some row) f h = tt

@@ -1,4 +1,5 @@
--- The shortest beginning of a key that is greater than another key is one byte longer than what the two share.
+-- The shortest beginning of a key that is greater than another key is one byte longer than what the two
+-- share.
 use Rattle.std.proofs.Common.{◌≡◌, ℕ, zero, suc, ◌==◌, if◌then◌else◌, ◌<◌, ◌≤◌, Bool, true, false, None, List, [], ◌∷◌, length, take, refl, sym, subst, ◌∙◌, arith}
 use Rattle.tree_shape.proofs.Imports.{nat_cmp, is_lt, is_gt, ordering_then, ordering_reverse, nat_cmp_total, nat_list_cmp_total, tied_itself, eqb-true, eq-eqb, exact_unsigned, Ordering, Less}
 use Rattle.tree_shape.proofs.Imports.{Equal, Greater, key_cmp, bound_cmp, bound_of, IsBefore, Bound, Entry, bounds_total, IsKeyBefore, shared, IsShortestPast}
@@ -101,7 +102,7 @@ stands_before last key h = by (key_cmp last.key key) h
     by Equal e = absurd cc
     by Greater e = absurd cc
 
--- two keys can't be the same where one stands before the other
+-- two keys can't be the same if one stands before the other
 pub never_itself : (key : List ℕ) → IsKeyBefore key key → ⊥
 never_itself key h = clash (sym h ∙ rw (tied_itself nat_list_cmp_total key) refl)
   where

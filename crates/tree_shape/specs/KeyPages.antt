@@ -21,7 +21,8 @@ IsKeyFree key es = AllByRecursion (λ x. x.key ≢ key) es
 abbrev pub IsKeyLink : Downlink → Type 0
 IsKeyLink d = IfSome d.bound IsKeyBound
 
--- each bound of what is seen of a page is the place before all rows of a key, and no two of its entries share a key
+-- each bound of what is seen of a page is the place before all rows of a key, and no two of its entries share
+-- a key
 pub record IsUniqueNode (node : Node) : Type 0 where
   pub high : IfSome node.high IsKeyBound
   pub bounds : AllByRecursion IsKeyLink node.links

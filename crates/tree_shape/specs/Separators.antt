@@ -24,8 +24,9 @@ pub record IsShortestPast (last next key : List ℕ) : Type 0 where
   pub greater : IsKeyBefore last key
   pub shortest : (fewer : ℕ) → fewer < count → is_lt (key_cmp last (take fewer next)) ≡ false
 
--- The separator of a leaf whose left half ends with `last` and whose right half begins with `next`: where their keys
--- differ, the place before all rows of the shortest beginning of next's key that is greater than last's; else last.
+-- The separator of a leaf whose left half ends with `last` and whose right half begins with `next`: if
+-- their keys differ, the place before all rows of the shortest beginning of next's key that is greater than
+-- last's; else last.
 pub record IsSeparator (last next : Entry) (s : Bound) : Type 0 where
   pub shortened : IsKeyBefore last.key next.key
       → IsShortestPast last.key next.key s.key × (s.row ≡ None)

@@ -12,7 +12,8 @@ use arrayvec::ArrayVec;
 use index_model::Layout;
 use page_codec::{Items, Page, PageState};
 
-/// Whether the page is a live leaf without entries, without an incomplete split, with a right link: one that may be made half-dead.
+/// Whether the page is a live leaf without entries, without an incomplete split, with a right link: one that
+/// may be made half-dead.
 pub fn may_die(page: &Page) -> bool
     ensures { IsTrue result ↔ MayDie page.now }
 {
@@ -64,7 +65,8 @@ pub fn deleted_page(page: &Page, number: u64) -> Page
     }
 }
 
-/// Sets the right link of a page that has one to `right`, 1 to 65,535, and changes nothing else but the layout.
+/// Sets the right link of a page that has one to `right`, 1 to 65,535, and changes nothing else but the
+/// layout.
 #[tactic(auto, using(page_codec::proofs::Renewed::renewed_is_page))]
 pub fn mend_right(page: &mut Page, right: u32)
     ensures only { page.new ≡ record page.old { layout = Layout.Two; right = Some right } }

@@ -95,8 +95,8 @@ fn row_before(entries: &[Entry], at: usize, key: &Key) -> Option<RowAddr>
     }
 }
 
-/// The row of an entry that has this one's key, where `at` is the place that this one would take: of the entry before the
-/// place, or else of the one at it. None: no entry has the key.
+/// The row of an entry that has this one's key, if `at` is the place that this one would take: of the
+/// entry before the place, or else of the one at it. None: no entry has the key.
 pub fn find_key(entries: &[Entry], at: usize, entry: &Entry) -> Option<RowAddr>
     ensures there { IfSome result (λ row.
         is_among entries.now (record { key = entry.now.key; row = row }) ≡ true) }

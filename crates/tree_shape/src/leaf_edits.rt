@@ -50,9 +50,9 @@ fn part_entries(page: &mut Page, at: usize, entry: Entry, half: &mut Page)
     }
 }
 
-/// Splits a live leaf of M entries, 2 to 50, with one entry put at the place that `find` gave: the
-/// page keeps the first (M + 2) / 2 of them, and the other page becomes its right half, on the block `new`,
-/// 1 to 65,535, whatever it was. Both halves carry `cycle`. The left link of the old right neighbour is left to the
+/// Splits a live leaf of M entries, 2 to 50, with one entry put at the place that `find` gave: the page keeps
+/// the first (M + 2) / 2 of them, and the other page becomes its right half, on the block `new`, 1 to 65,535,
+/// whatever it was. Both halves carry `cycle`. The left link of the old right neighbour is left to the
 /// caller. Both halves are of the second layout.
 pub fn split_leaf(page: &mut Page, at: usize, entry: Entry, new: u32, cycle: u32, half: &mut Page)
     requires page { IsPage page.old }

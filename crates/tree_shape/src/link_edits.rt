@@ -1,4 +1,5 @@
-//! Downlinks on an internal page, which may have to be split. A page that is changed is one of the second layout then.
+//! Downlinks on an internal page, which may have to be split. A page that is changed is one of the second
+//! layout then.
 
 ghost use Rattle.std.specs.Prelude.{◌≡◌, ◌≢◌, ◌<◌, ◌≤◌, ◌+◌, ◌↔◌, IsTrue, true, false, Some, None, IfSome, IfNone, All, length, insert, take, drop, unwrap_or};
 ghost use Rattle.page_codec.specs.Grammar.{IsBlock, IsPage, IsBoundIn};

@@ -1,5 +1,5 @@
-//! Links and marks of pages that are set when a split is made or finished. Each page that is changed is one of the second
-//! layout then.
+//! Links and marks of pages that are set when a split is made or finished. Each page that is changed is one
+//! of the second layout then.
 
 ghost use Rattle.std.specs.Prelude.{◌≡◌, ◌<◌, ◌≤◌, ◌↔◌, IsTrue, true, false, Some, None};
 ghost use Rattle.page_codec.specs.Grammar.{IsBlock, IsPage, IsBoundIn};

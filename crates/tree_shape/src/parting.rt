@@ -15,9 +15,9 @@ fn copy_into<T: Copy + Default + Drop>(items: &[T], list: &mut ArrayVec<T, 50>)
     let _ = list.try_extend_from_slice(items);
 }
 
-/// Puts an item at a place, 0 to the number of the items; the first `keep` of them all stay, and the
-/// rest are put into `behind`, instead of what is there. `keep` is 1 to the number of the items before. At no time does one
-/// list have more than 50.
+/// Puts an item at a place, 0 to the number of the items; the first `keep` of them all stay, and the rest are
+/// put into `behind`, instead of what is there. `keep` is 1 to the number of the items before. At no time
+/// does one list have more than 50.
 pub fn put_and_part<T: Copy + Default + Drop>(
     items: &mut ArrayVec<T, 50>,
     at: usize,

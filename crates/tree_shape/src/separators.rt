@@ -29,7 +29,7 @@ fn count_shared(a: &[u8], b: &[u8]) -> usize
     count
 }
 
-// The shortest beginning of `next` that is greater than `last`, where `next` itself is.
+// The shortest beginning of `next` that is greater than `last`, if `next` itself is.
 fn shortest_past(last: &Key, next: &Key) -> Key
     requires { IsKeyBefore last.now next.now }
     ensures { IsShortestPast last.now next.now result }
@@ -42,8 +42,8 @@ fn shortest_past(last: &Key, next: &Key) -> Key
     }
 }
 
-/// The bound between two entries: where their keys differ, the place before all rows of the shortest beginning of the
-/// second key that is greater than the first; else the first entry.
+/// The bound between two entries: if their keys differ, the place before all rows of the shortest
+/// beginning of the second key that is greater than the first; else the first entry.
 pub fn part(last: &Entry, next: &Entry) -> Bound
     requires { IsBefore (bound_of last.now) (bound_of next.now) }
     ensures is { IsSeparator last.now next.now result }

@@ -33,7 +33,7 @@ reading_cause dead st old new op (Blocked b) h = elim (or_cases (is_held_by_anot
 reading_cause dead st old new op LogFull h = absurd (room_for_none old new h)
 reading_cause dead st old new op fault h = h
 
--- what is a cause where a page was read before is one from before that
+-- what is a cause if a page was read before is one from before that
 pub taking_later : (images : List ℕ) (st : State) (first second third : Backing) (op : BulkDeleteOp) (fault : Fault) → first.failures ≤ second.failures → (second.stopped ≡ true → first.stopped ≡ true)
     → second.promised ≡ first.promised → HasCause (causes_of_taking images st second third op) fault → HasCause (causes_of_taking images st first third op) fault
 taking_later images st first second third op Io le alive promised h =

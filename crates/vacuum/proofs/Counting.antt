@@ -44,8 +44,8 @@ below_past cursor backtrack None below turn = tt
 below_past cursor None (Some b) below turn = (let t = turn b refl in (omega (arith, t.0), omega (arith, t.1)))
 below_past cursor (Some c) (Some b) below turn = (let t = turn b refl in let l = below.1 in (omega (arith, t.0, l), omega (arith, t.1, l)))
 
--- Where nobody else acts, the counts go on. The page that is read in block order has as many entries as are counted, and no
--- dead one; going back nothing is changed.
+-- If nobody else acts, the counts go on. The page that is read in block order has as many entries as are
+-- counted, and no dead one; going back nothing is changed.
 pub counts_on : (dead : Row → Bool) (st new : State) (op : BulkDeleteOp) (next_page : Option Backtrack) (kept gone : ℕ) → IsCounted dead st op
     → ((b : ℕ) → b ≢ next_block op.cursor op.backtrack → slice_get new.pages b ≡ slice_get st.pages b)
     → ((b : Backtrack) → next_page ≡ Some b → (b.block < last_read op.cursor op.backtrack) × (b.from ≡ last_read op.cursor op.backtrack))

@@ -261,7 +261,7 @@ not_written n is = rw is refl
 is_written : (n m : ℕ) → n ≡ suc m → nat_lt 0 n ≡ true
 is_written n m is = lt-ltb 0 n (omega (arith, is))
 
--- a page that is read is written exactly where it has dead entries
+-- a page that is read is written exactly if it has dead entries
 pub writes_dead : (dead : Row → Bool) (st : State) (op : BulkDeleteOp) (block : ℕ) (page : Page) (pruned : PrunedLeaf) → next_block op.cursor op.backtrack ≡ block → slice_get st.pages block ≡ Some page
     → page.state ≡ Live → HasEntries page.items → IsPruned dead page pruned → nat_lt 0 pruned.gone ≡ has_dead dead st op
 writes_dead dead st op block page pruned at found alive leaf sw =

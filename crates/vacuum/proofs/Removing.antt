@@ -206,7 +206,7 @@ does_remove st session dead page e es order h is free = record {
     was_on x on = (and_parts (is_among (entries_of page.items) x) (not (lives dead x))
         (sym (is_among-filter (λ y. not (lives dead y)) (entries_of page.items) x) ∙ subst (λ (l : List Entry). is_among l x ≡ true) (sym is) on)).0
 
--- where each entry lives, none is lost
+-- if each entry lives, none is lost
 pub none_lost : (dead : Row → Bool) (page : Page) → page.state ≡ Live → HasEntries page.items → ((e : Entry) → is_among (entries_of page.items) e ≡ true → dead e.row ≡ false)
     → length (dead_entries dead page) ≡ 0
 none_lost dead page alive leaf living = ap length (dead_is dead page alive leaf) ∙ by (removed_from (lives dead) (entries_of page.items)) refl

@@ -79,8 +79,8 @@ causes_of_taking images st old new op = record nothing_wrong {
   frames_are_pinned = nat_lt st.frames (1 + count_apart (pinned_blocks st.table));
 }
 
--- why a step of a bulk delete of this set of rows is refused, on pages that are a tree and a device that keeps its model: it
--- writes the page that it reads where that has dead entries
+-- why a step of a bulk delete of this set of rows is refused, on pages that are a tree and a device that
+-- keeps its model: it writes the page that it reads if that has dead entries
 abbrev pub causes_of_deleting : (Row → Bool) → State → Backing → Backing → BulkDeleteOp → Circumstances
 causes_of_deleting dead st old new op =
     causes_of_taking (block_if (has_dead dead st op) (next_block op.cursor op.backtrack)) st old new op
@@ -160,17 +160,18 @@ StaysBeforePins st before after result =
     → has_pin (holding_of st.table other).pins block ≡ true → before.cursor ≤ block
     → StaysBefore block after result
 
--- where nobody else acts, what it has counted are the entries that it has left; at the end all of them
+-- if nobody else acts, what it has counted are the entries that it has left; at the end all of them
 abbrev pub CountsOn : (Row → Bool) → State → BulkDeleteOp → Result BulkDeleteStep Fault → Type 0
 CountsOn dead new after (Ok Going) = IsCounted dead new after
 CountsOn dead new after (Ok (Finished stats)) =
     stats.num_index_tuples ≡ entries_below new.pages (length new.pages)
 CountsOn dead new after (Err fault) = IsCounted dead new after
 
--- A step of a bulk delete of this set of rows. On any pages: it does one act at most and holds nothing after it, a refused
--- one changes nothing, a stopped log refuses it, each that goes on leaves less to do, and the statistics are told as they
--- are. Over a device that keeps its model: what is due to be removed is to come still, and is gone at the end; it doesn't
--- come past a leaf that another session has pinned. On pages in order: what it does, and why it is refused.
+-- A step of a bulk delete of this set of rows. On any pages: it does one act at most and holds nothing after
+-- it; a refused one changes nothing; a stopped log refuses it; each that goes on leaves less to do; the
+-- statistics are right. Over a device that keeps its model: what is due to be removed is to come still, and
+-- is gone at the end; it doesn't come past a leaf that another session has pinned. On pages in order: what it
+-- does, and why it is refused.
 pub record BulkDeleteSteps {S : Type 0} (g : Ghosts S) (dead : Row → Bool)
     (before after : BulkDeleteOp) (old new : S) (result : Result BulkDeleteStep Fault) : Type 0
   where

@@ -13,7 +13,7 @@ use Rattle.tree_acts.specs.Leaves.{IsLeafAt}
 use Rattle.vacuum.specs.declared.steps.Backtrack.{Backtrack}
 use Rattle.vacuum.specs.declared.steps.BulkDeleteOp.{BulkDeleteOp}
 
--- how many of the first so many pages are deleted
+-- how many of the pages of blocks below a number are deleted
 abbrev pub deleted_count : State → ℕ → ℕ
 deleted_count st zero = 0
 deleted_count st (suc block) =
@@ -31,7 +31,7 @@ abbrev pub entry_count : Option Page → ℕ
 entry_count None = 0
 entry_count (Some page) = length (live_entries page.state page.items)
 
--- ... and on those of the first so many pages
+-- ... and on those of blocks below a number
 abbrev pub entries_below : List Page → ℕ → ℕ
 entries_below pages zero = 0
 entries_below pages (suc block) = entry_count (slice_get pages block) + entries_below pages block
@@ -52,8 +52,8 @@ abbrev pub IsBelow : ℕ → Option Backtrack → Type 0
 IsBelow cursor None = Unit {0}
 IsBelow cursor (Some backtrack) = (backtrack.block < cursor) × (backtrack.from < cursor)
 
--- Where nobody else acted since it began: the pages before the cursor have no dead entry any more, and as many entries as it
--- counted.
+-- If nobody else acted since it began: the pages before the cursor have no dead entry any more, and as
+-- many entries as it counted.
 pub record IsCounted (dead : Row → Bool) (st : State) (op : BulkDeleteOp) : Type 0 where
   pub counted : op.left ≡ entries_below st.pages op.cursor
   pub below : IsBelow op.cursor op.backtrack

@@ -15,13 +15,14 @@ pub record LeadsBack (cycle from : ℕ) (page : Page) (block : ℕ) : Type 0 whe
   pub right_is : page.right ≡ Some block
   pub below : block < from
 
--- after a leaf the bulk delete goes back to the sibling to which it leads, by one move more; or it leads to none
+-- after a leaf the bulk delete goes back to the sibling to which it leads, by one move more; or it leads to
+-- none
 abbrev pub TurnsTo : ℕ → ℕ → ℕ → ℕ → Page → Option Backtrack → Type 0
 TurnsTo cycle most from moves page None = (block : ℕ) → LeadsBack cycle from page block → ⊥
 TurnsTo cycle most from moves page (Some backtrack) = LeadsBack cycle from page backtrack.block
     × (backtrack.from ≡ from) × (backtrack.moves ≡ suc moves) × (moves < most)
 
--- so many moves were made
+-- the leaf leads back, and `most` moves back were made already
 pub record TurnsNoMore (cycle most from moves : ℕ) (page : Page) : Type 0 where
   pub block : ℕ
   pub leads : LeadsBack cycle from page block

@@ -14,9 +14,9 @@ abbrev pub IsSibling : Option Backtrack → ℕ → Type 0
 IsSibling None block = ⊥
 IsSibling (Some backtrack) block = block ≡ backtrack.block
 
--- A block that the bulk delete comes to: it isn't read yet in block order; it is the sibling that is read next; or it lies
--- below the last leaf read in block order, and a leaf that carries the running cycle number leads to it, to which the bulk
--- delete comes.
+-- A block that the bulk delete comes to: it isn't read yet in block order; it is the sibling that is read
+-- next; or it lies below the last leaf read in block order, and a leaf that carries the running cycle number
+-- leads to it, to which the bulk delete comes.
 pub data BlockIsToCome (st : State) (cursor : ℕ) (backtrack : Option Backtrack) : ℕ → Type 0 where
   ahead : {block : ℕ} → cursor ≤ block → BlockIsToCome st cursor backtrack block
   sibling : {block : ℕ} → IsSibling backtrack block → BlockIsToCome st cursor backtrack block

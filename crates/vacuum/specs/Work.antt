@@ -2,7 +2,7 @@
 use Rattle.std.specs.Prelude.{ℕ, suc, ◌+◌, ◌-◌, ◌*◌, Option, Some, None}
 use Rattle.vacuum.specs.declared.steps.Backtrack.{Backtrack}
 
--- how many moves back are left, of so many
+-- how many moves back are left, of `most` and one more
 abbrev pub moves_left : ℕ → Option Backtrack → ℕ
 moves_left most None = 0
 moves_left most (Some backtrack) = suc (suc most - backtrack.moves)

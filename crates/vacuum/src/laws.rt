@@ -7,7 +7,8 @@ pub fn bulk_deletes_are_undisturbed()
     ensures { BulkDeletesAreUndisturbed }
 {}
 
-/// Does nothing: its clause says that acts which leave the leaves of a bulk delete leave what is due to it to come.
+/// Does nothing: its clause says that acts which leave the leaves of a bulk delete leave what is due to it to
+/// come.
 pub fn due_is_undisturbed()
     ensures { DueIsUndisturbed }
 {}

@@ -1,5 +1,5 @@
-//! Bulk delete in block order over a tree of any size, one page a step: the entries of dead rows go, while others insert
-//! and scan.
+//! Bulk delete in block order over a tree of any size, one page a step: the entries of dead rows go, while
+//! others insert and scan.
 #![tactic(auto)]
 
 mod counts;

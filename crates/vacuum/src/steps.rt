@@ -17,14 +17,16 @@ use page_action::PageStore;
 use page_codec::Page;
 use std::slice;
 
-/// Where a bulk delete goes back to leaves that were split after it.
+/// Where a bulk delete stands while it goes back. It reads the pages in block order, and a split during it
+/// may put the right half of a leaf on a block that it has passed. From such a leaf it follows the right
+/// links to these halves. After them it goes on in block order.
 #[derive(Clone, Copy)]
 pub struct Backtrack {
     /// The last leaf that was read in block order.
     pub from: u32,
     /// The right sibling that is read next, below that leaf.
     pub block: u32,
-    /// How many moves back were made since that leaf was read.
+    /// How many right links were followed since that leaf was read.
     pub moves: u32,
 }
 
@@ -69,13 +71,14 @@ impl BulkDeleteOp {
         }
     }
 
-    /// Makes one step, which reads one page; the dead entries of a live leaf go in one act. After `Finished` and after each
-    /// fault but `Blocked` the call is over, and its store's `end` is due. The store's cycle number is to be that of this
-    /// call from its beginning to its end.
+    /// Makes one step, which reads one page; the dead entries of a live leaf go in one act. After `Finished`
+    /// and after each fault but `Blocked` the call is over, and its store's `end` is due. The store's cycle
+    /// number is to be that of this call from its beginning to its end.
     ///
-    /// Refused with `Blocked` (4) where another session holds any latch or pin of the leaf, and the same step may be made
-    /// again; with `Io` (2), `Stopped` (3), `LogFull` (9), `NoFrame` (10); with `PageDamaged` (17) on pages that are no tree:
-    /// where it would go back more often than there may be pages. A refused step changes nothing.
+    /// Refused with `Blocked` (4) if another session holds any latch or pin of the leaf, and the same step
+    /// may be made again; with `Io` (2), `Stopped` (3), `LogFull` (9), `NoFrame` (10); with `PageDamaged`
+    /// (17) on pages that are no tree: if it would go back more often than there may be pages. A refused
+    /// step changes nothing.
     pub fn step<S: PageStore, T: DeadRows>(
         &mut self,
         store: &mut S,
@@ -141,8 +144,8 @@ impl BulkDeleteOp {
         Ok(BulkDeleteStep::Going)
     }
 
-    // Where it goes back after a leaf, if it does: to the right sibling, below the last leaf read in block order, of one
-    // that carries the cycle number.
+    // The way back after a leaf, if there is one: to the right sibling of a leaf that carries the running
+    // cycle number, if its block is lower than that of the last leaf read in block order.
     fn turn(&self, page: &Page, cycle: u32, most: u32) -> Result<Option<Backtrack>, Fault>
         ensures turns { IfOk result (TurnsTo cycle most (last_read self.now.cursor self.now.backtrack)
             (moves_of self.now.backtrack) page.now) }
@@ -169,7 +172,8 @@ impl BulkDeleteOp {
         }
     }
 
-    // Latches a leaf for cleanup, and writes it, if it is changed. The latch is let go again: the step is one moment.
+    // Latches a leaf for cleanup, and writes it, if it is changed. The latch is let go again: the step is one
+    // moment.
     fn take<S: PageStore>(&self, store: &mut S, page: &Page, changed: bool) -> Result<(), Fault>
         requires may { AreActable (S.state store.old).limits (length (S.state store.old).pages)
             (page.now ∷ []) }

@@ -1,11 +1,12 @@
--- Which blocks are free: as told of another moment, at which the same pages are in use and the same calls run.
+-- Which blocks are free: as told of another moment, at which the same pages are in use and the same calls
+-- run.
 use Rattle.std.specs.Prelude.{slice_index}
 use Rattle.std.proofs.Common.{◌≡◌, ◌⊎◌, ℕ, zero, suc, Bool, true, false, not, ◌&&◌, ◌||◌, nat_le, Option, Some, None, List, [], ◌∷◌, length, slice_get, slice_set, refl, sym, ap, subst, inl, inr, ◌∙◌, unwrap_or}
 use Rattle.session_calls.proofs.Freeing.{go_running}
 use Rattle.whole_calls.proofs.Imports.{is_deleted, others_began_after, is_reusable, any_is_reusable, is_out_of_blocks, InsertOp, is_bulk_delete, start_number, op_after_call, after_slot, let_go}
 use Rattle.whole_calls.proofs.Imports.{Insert, running_of, Entry, Format, State, Ghosts, Page, session_of, Op, Moment, Fits, slot_of, SlotRuns, with_number, has_no_block}
 
--- one of the first so many blocks may be used again
+-- one of the first `n` blocks may be used again
 same_reusable : (a b : State) → a.pages ≡ b.pages → a.counted ≡ b.counted → a.running ≡ b.running → (n : ℕ) → any_is_reusable a n ≡ any_is_reusable b n
 same_reusable a b pages counted running zero = refl
 same_reusable a b pages counted running (suc n) =
@@ -75,7 +76,8 @@ given_up_numbers {S} g start session now new fits is number = of (slice_get now.
         ∙ ap (λ (s : ℕ). slice_set (slice_set (g.state now.store).running s None) session number) (runs.runs.session ∙ runs.is.session_is)
         ∙ set_twice (g.state now.store).running session None number
 
--- the one store's pages and log are the other's, and so are the start numbers of its calls, except for the session's
+-- the one store's pages and log are the other's, and so are the start numbers of its calls, except for the
+-- session's
 pub record LeavesAll {S : Type 0} (g : Ghosts S) (session : ℕ) (old new : S) : Type 0 where
   pub backing : g.backing new ≡ g.backing old
   pub state : LeavesState (g.state old) (g.state new)

@@ -9,7 +9,7 @@ use Rattle.whole_calls.proofs.Made.{made_told}
 use Rattle.whole_calls.proofs.Gone.{set_same, same_ask, gone_nowhere, gone_runs, gone_then, whole_told}
 use Rattle.whole_calls.proofs.Tellings.{one_runs, was_told}
 
--- where no act is done, every step owes to leave less
+-- if no act is done, every step owes to leave less
 pub owes : (slot : Option Op) (old new : State) → new.acts ≡ old.acts → OwesLess slot old new
 owes (Some (Bulks set op)) old new calm = tt
 owes (Some (Cleanups op)) old new calm = tt

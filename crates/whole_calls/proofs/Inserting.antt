@@ -241,7 +241,7 @@ module _ {S : Type 0} (g : Ghosts S) (start : Entry → Bool) (session : ℕ) (e
       let slot : slot_of y.slots session ≡ Some r.0 = ap (λ (o : Option (Option Op)). unwrap_or o None) r.1 in
       ap (λ (c : Call). c.added) (sym is) ∙ ap (λ (c : Call). c.added) (sym e) ∙ r.2.runs.added ∙ ap slot_add (sym slot)
 
-  -- where it has none, it has appended changes of the shape only
+  -- if it has none, it has appended changes of the shape only
   left_without : (fault : Fault) (l : IsLeftSo insert_number request_call fault begun y) → slot_add (slot_of y.slots session) ≡ None → IsNotAdded session entry fault x z
   left_without fault l none =
       let no_add : (noted_after request_call (length x.history) l.effects).added ≡ None = elim l.after_is [
@@ -284,7 +284,7 @@ module _ {S : Type 0} (g : Ghosts S) (start : Entry → Bool) (session : ℕ) (e
       let none : slot_add (slot_of y.slots session) ≡ None = ap slot_add (failed_runs_none fault l (l.over_is of)) in
       cc
 
-  -- where it has one, it still runs, and is given up
+  -- if it has one, it still runs, and is given up
   left_with : (fault : Fault) (l : IsLeftSo insert_number request_call fault begun y) (action : ℕ) → slot_add (slot_of y.slots session) ≡ Some action
       → IsAddedNow session entry (record { action = action; unfinished = Some fault }) x z
   left_with fault l action some = elim l.after_is [

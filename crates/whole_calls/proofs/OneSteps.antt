@@ -1,4 +1,5 @@
--- One step of a session's call after the making of room for it, and a call that is given up since the room can't be made.
+-- One step of a session's call after the making of room for it, and a call that is given up because the room
+-- can't be made.
 use Rattle.std.proofs.Common.{◌≡◌, ◌⊎◌, ℕ, ◌≤◌, zero, suc, Bool, true, false, not, Option, Some, None, List, [], ◌∷◌, ◌++◌, length, slice_get, slice_set, refl, sym, ap, subst, arith, inl, inr, ◌∙◌, unwrap_or}
 use Rattle.whole_calls.proofs.Composing.{is_later, joined_second, goes_once}
 use Rattle.whole_calls.proofs.Made.{made_alone, made_last, made_once, made_then, made_told}
@@ -86,7 +87,7 @@ module _ {S : Type 0} {g : Ghosts S} (session least_room : ℕ) {x y : Moment S}
         calls_is = rw (sym room.silent.calls_is) h.calls_is;
       }
 
-  -- a call that is given up, since the room couldn't be made
+  -- a call that is given up because the room couldn't be made
   pub given_up_goes : {start : Entry → Bool} (fault : Fault) (added : Option ℕ) {z : Moment S} → Fits g start y
       → HasCause (causes_of_forced (g.backing x.store) (g.backing y.store)) fault → added ≡ slot_add (slot_of y.slots session)
       → LeavesAll g session y.store z.store → EndMeans session y z → OneStepIsRun g session least_room (cut_short added fault) x z
@@ -147,7 +148,7 @@ room_goes {g = g} laws {session} {least_room} {answer} {Both} {a = a} {b} {c} st
     (goes_once laws {Tells = StepsOnce g session least_room answer} (Step session) refl makes (λ start h hc k kc honest fits does. steps_once least_room fits does honest promise))
     (λ start h hc k kc l lc fx fy fz. joins (snapshot_of a h hc) (snapshot_of b k kc) (snapshot_of c l lc) (is_later g laws steps) (is_later g laws then_steps))
 
--- the step itself, where room is made for it
+-- the step itself, if room is made for it
 pub is_step_made : {S : Type 0} {g : Ghosts S} {session least_room : ℕ} {answer : Answer} {st : State} {mid new : StoreAndSlots S} → g.state mid.store ≡ st
     → RoomIsMade least_room st.limits (g.backing mid.store) → EventEffect g (MovesCall session Steps) answer mid new → IsStepMade g session least_room answer mid new
 is_step_made {g = g} {least_room = least_room} {mid = mid} is room makes =
@@ -228,7 +229,7 @@ same_list (x ∷ xs) [] long at = absurd (omega (arith, long))
 same_list (x ∷ xs) (y ∷ ys) long at = ap (λ (o : Option Op). o ∷ xs) (same_some (Some x) x y refl (at 0))
     ∙ ap (λ (l : List (Option Op)). y ∷ l) (same_list xs ys (omega (arith, long)) (λ i. at (suc i)))
 
--- the slots are the same where one session's is, and all others
+-- the slots are the same if one session's is, and all others
 same_slots : (xs ys : List (Option Op)) (session : ℕ) → length xs ≡ length ys → OthersStay session ys xs → slot_of xs session ≡ slot_of ys session → xs ≡ ys
 same_slots [] [] session long others own = refl
 same_slots [] (y ∷ ys) session long others own = absurd (omega (arith, long))

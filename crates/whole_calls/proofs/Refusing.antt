@@ -1,4 +1,5 @@
--- Why a running call is refused: the causes of its events, told from the moment before the call to the moment after it.
+-- Why a running call is refused: the causes of its events, told from the moment before the call to the moment
+-- after it.
 use Rattle.std.proofs.Common.{◌≡◌, ◌≢◌, ◌⊎◌, ℕ, zero, suc, ◌+◌, ◌<◌, ◌≤◌, Bool, true, false, not, ◌&&◌, ◌||◌, ◌==◌, nat_lt, nat_le, Option, Some, None, List, [], ◌∷◌, ◌++◌, length, slice_get, refl, sym, ap, subst, arith, inl, inr, ◌∙◌, if◌then◌else◌, unwrap_or, is_none}
 use Rattle.latch_table.specs.Holdings.{Holding, Table, nothing_held, holding_of, holding_excludes, is_held_by_another}
 use Rattle.latch_table.specs.declared.mode.Mode.{Mode}
@@ -63,7 +64,7 @@ cause_wider at wide more (Refused fault) h = more fault h
 cause_wider at wide more (Added action (Some fault)) h = narrower_once at wide more fault h
 cause_wider at wide more answer h = tt
 
--- where nothing is wrong nothing is refused
+-- if nothing is wrong nothing is refused
 nothing_causes : (fault : Fault) → HasCause nothing_wrong fault → ⊥
 nothing_causes KeyTooLong h = h
 nothing_causes BadRow h = h
@@ -110,7 +111,7 @@ idle_so from (slot ∷ slots) session idle =
     eqb_apart : (n m : ℕ) → (n == m) ≡ false → n ≡ m → ⊥
     eqb_apart n m apart is = true_false (sym (eq-eqb n m is) ∙ apart)
 
--- where no other session runs a call, their slots are empty
+-- if no other session runs a call, their slots are empty
 pub others_idle : (slots : List (Option Op)) (session : ℕ) → another_runs slots session ≡ false → (other : ℕ) → other ≢ session → slot_of slots other ≡ None
 others_idle slots session h other apart = idle_from 0 slots session h other (λ same. apart (omega (arith, same)))
 
@@ -163,7 +164,7 @@ pins_none (holding ∷ table) none =
     let rest : pinned_blocks table ≡ [] = pins_none table (λ other. none (suc other)) in
     ap (λ (h : Holding). h.pins ++ pinned_blocks table) here ∙ rest
 
--- where no other session holds anything, the pinned blocks are this one's
+-- if no other session holds anything, the pinned blocks are this one's
 pins_own : (table : Table) (session : ℕ) → ((other : ℕ) → other ≢ session → holding_of table other ≡ nothing_held) → pinned_blocks table ≡ (holding_of table session).pins
 pins_own [] session none = refl
 pins_own (holding ∷ table) zero none =
@@ -175,7 +176,7 @@ pins_own (holding ∷ table) (suc session) none =
 
 -- the room for an act
 
--- where that room was made, an act is no cause
+-- if that room was made, an act is no cause
 enough : (least_room : ℕ) (old new : Backing) (images : List ℕ) → (5 ≤ least_room → 5 ≤ old.promised) → length images ≤ 4 → lacks_room old new images ≡ true → nat_lt least_room 5 ≡ true
 enough least_room old new images room few full = by_bool (nat_lt least_room 5) (λ no_less. absurd (
     let k : 5 ≤ old.promised = room (at_least least_room no_less) in
@@ -188,7 +189,8 @@ enough least_room old new images room few full = by_bool (nat_lt least_room 5) (
 nat_less : (a b c : ℕ) → a ≤ b → nat_lt b c ≡ true → nat_lt a c ≡ true
 nat_less a b c le h = (let k = ltb-true b c h in lt-ltb a c (omega (arith, k, le)))
 
--- the fault that an answer tells of: that it is refused for, or that keeps an insert's split from being finished
+-- the fault that an answer tells of: that it is refused for, or that keeps an insert's split from being
+-- finished
 abbrev fault_of : Answer → Option Fault
 fault_of (Refused fault) = Some fault
 fault_of (Added action unfinished) = unfinished
@@ -224,11 +226,11 @@ module _ {S : Type 0} (g : Ghosts S) (start : Entry → Bool) (session least_roo
   abbrev busy : Bool
   busy = another_runs x.slots session
 
-  -- a page is held by another session only where one runs a call
+  -- a page is held by another session only if one runs a call
   held_cause : (block : ℕ) (mode : Mode) → is_held_by_another st.table session block mode ≡ true → busy ≡ true
   held_cause block mode h = by_bool busy (λ none. absurd (free_of_others st.table session block mode (λ other apart. holds_none g start x fits other (others_idle x.slots session none other apart)) h))
 
-  -- frames are pinned only where one does, or there are too few
+  -- frames are pinned only if one does, or there are too few
   pins_cause : (need most : ℕ) (held : Holding) → holding_of st.table session ≡ held → need + count_apart held.pins ≤ most → most ≤ 4
       → nat_lt st.frames (need + count_apart (pinned_blocks st.table)) ≡ true → (busy || nat_lt (g.state y.store).frames 4) ≡ true
   pins_cause need most held is few low h = of busy refl
@@ -281,7 +283,7 @@ module _ {S : Type 0} (g : Ghosts S) (start : Entry → Bool) (session least_roo
   inserting was_there key_was used_up tall op is f blocks root TooTall h = root h
   inserting was_there key_was used_up tall op is f blocks root fault h = h
 
-  -- where it isn't told whether the entry was there, and of its key only that the index is unique
+  -- if it isn't told whether the entry was there, and of its key only that the index is unique
   any_was : (was_there : Bool) (key_was : Row → Bool) (used_up tall : Bool) → ((row : Row) → key_was row ≡ true → (g.state y.store).limits.unique ≡ true)
       → (fault : Fault) → HasCause (causes_of_inserted g session least_room was_there key_was used_up tall (here_at x) y.store) fault
       → HasCause (causes_of_inserted g session least_room true (λ r. (g.state y.store).limits.unique) used_up tall (here_at x) y.store) fault
@@ -374,7 +376,7 @@ module _ {S : Type 0} (g : Ghosts S) (start : Entry → Bool) (session least_roo
   op_came (Bulk set op) is f answer same c = cause_wider _ _ (deleting (set_at x.sets set) op is f) answer c
   op_came (Cleanup op) is f answer same c = cause_wider _ _ (cleaning op is f) answer c
 
--- where it appends none, it leaves the pages as they were
+-- if it appends none, it leaves the pages as they were
 pub quiet_pages : {S : Type 0} (g : Ghosts S) (start : Entry → Bool) (session : ℕ) (answer : Answer) (x y : Moment S)
     → EventDoes g start (MovesCall session Steps) answer x y → (c : CallMoves g start session answer x y)
     → c.effect ≡ None → (g.state y.store).pages ≡ (g.state x.store).pages

@@ -13,7 +13,7 @@ use Rattle.session_calls.specs.declared.op.Op.{Op}
 use Rattle.schedule.specs.TheoremMoments.{Moment, IsRunningCall}
 use Rattle.whole_calls.specs.Meanings.{IsSameHistory, StepMeans}
 
--- where the scan is to go on, or has given an entry, less is left to do
+-- if the scan is to go on, or has given an entry, less is left to do
 abbrev pub LessIsLeft : State → State → Option Op → Option Op → Answer → Type 0
 LessIsLeft old new before after Going = work_in new after < work_in old before
 LessIsLeft old new before after (Ready count) = work_in new after < work_in old before
@@ -44,7 +44,7 @@ AnswersSeek Done = Unit {0}
 AnswersSeek (Refused fault) = Unit {0}
 AnswersSeek answer = ⊥
 
--- what a scan gives that came to this: an entry, none where it has given all, or a refusal
+-- what a scan gives that came to this: an entry, none if it has given all, or a refusal
 abbrev pub given_of : Answer → Result (Option Entry) Fault
 given_of (Gave (Some entry)) = Ok (Some entry)
 given_of Done = Ok None
@@ -78,7 +78,8 @@ pub record Becomes {S : Type 0} (number : ℕ) (after : Call) (old new : Moment 
   pub history_is : new.history ≡ old.history
   pub calls_is : new.calls ≡ slice_set old.calls number after
 
--- the call has given one entry more; or it has finished, with all that it gave; or it is over, and no action is appended
+-- the call has given one entry more; or it has finished, with all that it gave; or it is over, and no action
+-- is appended
 abbrev pub GivenMeans : {S : Type 0} → ℕ → Call → Result (Option Entry) Fault → Moment S → Moment S → Type 0
 GivenMeans number call (Ok (Some entry)) old new = Becomes number (given_one call entry) old new
 GivenMeans number call (Ok None) old new = Becomes number (ended call EndsFinished (length old.history)) old new

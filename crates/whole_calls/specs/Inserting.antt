@@ -9,7 +9,7 @@ use Rattle.whole_calls.specs.Going.{CallIsRun}
 use Rattle.whole_calls.specs.Meanings.{InsertMeans}
 use Rattle.whole_calls.specs.declared.inserted.Inserted.{Inserted}
 
--- the insert has added its entry, and then an event was refused with the fault that it leaves after
+-- the insert has added its entry, and then an event was refused with the fault in `unfinished`
 pub record IsCutShort {S : Type 0} (g : Ghosts S) (session : ℕ) (entry : Entry) (inserted : Inserted) (old new : StoreAndSlots S) : Type 0 where
   pub fault : Fault
   pub left : inserted.unfinished ≡ Some fault

@@ -16,15 +16,15 @@ use Rattle.whole_calls.specs.Going.{IsAmong}
 use Rattle.whole_calls.specs.Meanings.{RoomIsMade}
 use Rattle.whole_calls.specs.declared.inserted.Inserted.{Inserted}
 
--- the log's room is as an event asks: a checkpoint is made only where there is room for fewer images than these; a step only where there is
--- room for so many, or the whole room; and nothing else is done for the store
+-- the log's room is as an event asks: a checkpoint is made only if there is room for fewer images than these;
+-- a step only if there is room for `least_room`, or the whole room; and nothing else is done for the store
 abbrev pub HasItsRoom : ℕ → Kind → Format → Backing → Type 0
 HasItsRoom least_room (MaintainsStore Checkpoints) limits backing = backing.room < least_room
 HasItsRoom least_room (MaintainsStore upkeep) limits backing = ⊥
 HasItsRoom least_room (MovesCall session Steps) limits backing = RoomIsMade least_room limits backing
 HasItsRoom least_room kind limits backing = Unit {0}
 
--- these events are made one after the other, with these answers, each where the log's room is as it asks
+-- these events are made one after the other, with these answers, each when the log's room is as it asks
 abbrev pub AreMade : {S : Type 0} → Ghosts S → ℕ → List Event → List Answer → StoreAndSlots S → StoreAndSlots S → Type 0
 AreMade g least_room [] [] first last = first ≡ last
 AreMade {S} g least_room (event ∷ events) (answer ∷ answers) first last =
@@ -33,8 +33,8 @@ AreMade {S} g least_room (event ∷ events) (answer ∷ answers) first last =
 AreMade g least_room [] (answer ∷ answers) first last = ⊥
 AreMade g least_room (event ∷ events) [] first last = ⊥
 
--- The call is made of events of this session and of checkpoints, whatever the pages are, each where the log's room is as it asks. What it came
--- to, it came to by their answers.
+-- The call is made of events of this session and of checkpoints, whatever the pages are, each when the log's
+-- room is as it asks. What it came to, it came to by their answers.
 pub record IsMadeOf {S : Type 0} (g : Ghosts S) (session least_room : ℕ) (CallOutcome : List Answer → Type 0) (old new : StoreAndSlots S) : Type 0 where
   pub events : List Event
   pub answers : List Answer
@@ -42,7 +42,8 @@ pub record IsMadeOf {S : Type 0} (g : Ghosts S) (session least_room : ℕ) (Call
   pub made : AreMade g least_room events answers old new
   pub outcome_by : CallOutcome answers
 
--- a step answered this, or the checkpoint before it, which was refused so; else a checkpoint was made before it, or none
+-- a step answered this, or the checkpoint before it, which was refused so; else a checkpoint was made before
+-- it, or none
 abbrev pub StepComesTo : Answer → List Answer → Type 0
 StepComesTo answer answers = (answers ≡ answer ∷ []) ⊎ ((count : ℕ) × (answers ≡ Checkpointed count ∷ answer ∷ []))
 
@@ -55,7 +56,8 @@ abbrev pub ComesTo : Option Answer → List Answer → Type 0
 ComesTo None answers = Unit {0}
 ComesTo (Some answer) answers = Answered answer answers
 
--- ... of what an insert answers: that its entry is added, or a refusal; a refusal after its Add stands in `unfinished`
+-- ... of what an insert answers: that its entry is added, or a refusal; a refusal after its Add stands in
+-- `unfinished`
 abbrev pub InsertComesTo : Result Inserted Fault → List Answer → Type 0
 InsertComesTo (Ok inserted) answers =
     IsAmong answers (Added inserted.action inserted.unfinished) ⊎ ((fault : Fault) × (inserted.unfinished ≡ Some fault) × Answered (Refused fault) answers)

@@ -37,7 +37,7 @@ MayAnswer (AskBulkDelete dead) (Finished stats) = Unit {0}
 MayAnswer AskCleanup (Finished stats) = Unit {0}
 MayAnswer ask answer = ⊥
 
--- what the call may come to that a session runs, whatever the pages are; where it runs none, only a refusal
+-- what the call may come to that a session runs, whatever the pages are; if it runs none, only a refusal
 abbrev pub MayComeTo : DeadSets → Option Op → Answer → Type 0
 MayComeTo sets None (Refused fault) = Unit {0}
 MayComeTo sets None answer = ⊥
@@ -48,7 +48,7 @@ abbrev pub acts_by : ℕ → List Effect → List Action
 acts_by number [] = []
 acts_by number (effect ∷ effects) = (record { by = number; effect = effect }) ∷ acts_by number effects
 
--- the call after events of these effects, with so many actions before the first: its Add is noted
+-- the call after events of these effects, with `count` actions before the first: its Add is noted
 abbrev pub noted_after : Call → ℕ → List Effect → Call
 noted_after call count [] = call
 noted_after call count (effect ∷ effects) = noted_after (noted call count (Some effect)) (suc count) effects
@@ -64,13 +64,15 @@ abbrev pub IsOwnEffect : Call → Option Effect → Type 0
 IsOwnEffect call None = Unit {0}
 IsOwnEffect call (Some effect) = MayDo call.ask call.added effect
 
--- the call of this number has done these effects, which it was asked for, and still runs; no other call is changed
+-- the call of this number has done these effects, which it was asked for, and still runs; no other call is
+-- changed
 pub record HasContinued {S : Type 0} (number : ℕ) (call : Call) (effects : List Effect) (old new : Moment S) : Type 0 where
   pub own : AreOwnEffects call (length old.history) effects
   pub history_is : new.history ≡ old.history ++ acts_by number effects
   pub calls_is : new.calls ≡ slice_set old.calls number (noted_after call (length old.history) effects)
 
--- the call of this number has done these effects, and then a step with this one, if any, is told so; no other call is changed
+-- the call of this number has done some effects, and then one step with this answer, with one more effect or
+-- none; no other call is changed
 pub record CallAnswers {S : Type 0} (number : ℕ) (call : Call) (answer : Answer) (old new : Moment S) : Type 0 where
   pub before : List Effect
   pub last : Option Effect
@@ -88,8 +90,8 @@ pub record NothingIsDone {S : Type 0} (fault : Fault) (old new : Moment S) : Typ
   pub not_exists : fault ≢ Exists
   pub not_key_exists : (row : Row) → fault ≢ KeyExists row
 
--- the call of this number has gone on so far, and still runs; the room for a further step was refused, not because the entry or
--- its key was there
+-- the call of this number has gone on so far, and still runs; the room for a further step was refused, not
+-- because the entry or its key was there
 pub record IsHeldUp {S : Type 0} (number : ℕ) (call : Call) (answer : Answer) (old new : Moment S) : Type 0 where
   pub fault : Fault
   pub refused : answer ≡ Refused fault
@@ -150,32 +152,34 @@ abbrev pub NextMeans : {S : Type 0} → ℕ → Request → Answer → Moment S 
 NextMeans session request answer old new =
     StepMeans (length old.calls) (first_call session request old) answer (with_one_call old (first_call session request old)) new
 
--- an insert that is refused: where its entry is added, that fault is left after
+-- what an insert answers to this fault: if its entry is added, the fault stands in `unfinished`; else it is
+-- refused
 abbrev pub left_behind : Option ℕ → Fault → Result Inserted Fault
 left_behind (Some action) fault = Ok (record { action = action; unfinished = Some fault })
 left_behind None fault = Err fault
 
--- what an insert answers that came to this, by the number of its Add, where it still runs and has one
+-- what an insert answers that came to this, by the number of its Add, if it still runs and has one
 abbrev pub outcome_of : Answer → Option ℕ → Result Inserted Fault
 outcome_of (Added action unfinished) added = Ok (record { action = action; unfinished = unfinished })
 outcome_of (Refused fault) added = left_behind added fault
 outcome_of answer added = Err NoSession
 
--- so many changes of the pages' shape, by the call of this number
+-- `count` changes of the pages' shape, by the call of this number
 abbrev pub shapes : ℕ → ℕ → List Action
 shapes number count = replicate count (record { by = number; effect = Shape })
 
--- the insert's call with this Add, ended so with so many actions
+-- the insert's call with this Add, begun after `count` actions and ended so after `until` actions
 abbrev pub inserted_call : ℕ → Entry → ℕ → ℕ → Ending → ℕ → Call
 inserted_call session entry count action ending until =
     ended (record (begun_call session (AskInsert entry) count) { added = Some action }) ending until
 
--- how the call of an insert has ended: with its answer; or given up, because of the fault that is left after
+-- how the call of an insert has ended: with its answer; or it was given up, because of the fault in
+-- `unfinished`
 abbrev pub IsEndOf : Inserted → Ending → Type 0
 IsEndOf inserted ending = (ending ≡ EndsAdded inserted.action inserted.unfinished) ⊎ ((ending ≡ GivenUp) × (inserted.unfinished ≢ None))
 
--- One action of the history adds the entry; it is that of this insert, whose call is over. Before and after it the insert
--- has changed the shape of the pages only.
+-- One action of the history adds the entry; it is that of this insert, whose call is over. Before and after
+-- it the insert has changed the shape of the pages only.
 pub record IsAddedNow {S : Type 0} (session : ℕ) (entry : Entry) (inserted : Inserted) (old new : Moment S) : Type 0 where
   pub before : ℕ
   pub behind : ℕ
@@ -185,7 +189,8 @@ pub record IsAddedNow {S : Type 0} (session : ℕ) (entry : Entry) (inserted : I
   pub end_is : IsEndOf inserted ending
   pub calls_is : new.calls ≡ old.calls ++ inserted_call session entry (length old.history) inserted.action ending (length new.history) ∷ []
 
--- the insert has changed the shape of the pages only; where the entry or its key was there, the call has ended with this
+-- the insert has changed the shape of the pages only; if the entry or its key was there, the call has
+-- ended with this
 pub record IsNotAdded {S : Type 0} (session : ℕ) (entry : Entry) (fault : Fault) (old new : Moment S) : Type 0 where
   pub shaped : ℕ
   pub history_is : new.history ≡ old.history ++ shapes (length old.calls) shaped
@@ -198,11 +203,11 @@ abbrev pub InsertMeans : {S : Type 0} → ℕ → Entry → Result Inserted Faul
 InsertMeans session entry (Ok inserted) old new = IsAddedNow session entry inserted old new
 InsertMeans session entry (Err fault) old new = IsNotAdded session entry fault old new
 
--- what making room came to, where it was refused
+-- what making room came to, if it was refused
 abbrev pub room_outcome : Result (Unit {0}) Fault → Option Answer
 room_outcome (Ok made) = None
 room_outcome (Err fault) = Some (Refused fault)
 
--- there is room for so many images, or the log is empty
+-- there is room for `least` images, or the log is empty
 abbrev pub RoomIsMade : ℕ → Format → Backing → Type 0
 RoomIsMade least limits backing = (least ≤ backing.room) ⊎ LogIsClosed limits backing

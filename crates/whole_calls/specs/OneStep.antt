@@ -23,13 +23,14 @@ use Rattle.whole_calls.specs.Spending.{TakesFewer}
 use Rattle.whole_calls.specs.Stepping.{FinishCounts}
 use Rattle.whole_calls.specs.Meanings.{MayAnswer, IsOwnEffect, IsSameHistory, HasNone, RoomIsMade}
 
--- what a call answers that is given up for a fault: an insert whose entry is added leaves it unfinished
+-- what a call answers that is given up for a fault: an insert whose entry is added has the fault in
+-- `unfinished`; any other call is refused with it
 abbrev pub cut_short : Option ℕ → Fault → Answer
 cut_short None fault = Refused fault
 cut_short (Some action) fault = Added action (Some fault)
 
--- the call of this number has made one step, with an action of this effect or none, which it was asked for; what is told of it; no other
--- call is changed
+-- the call of this number has made one step, with an action of this effect or none, which it was asked for;
+-- what is told of it; no other call is changed
 pub record HasStepped {S : Type 0} (number : ℕ) (call : Call) (answer : Answer) (old new : Moment S) : Type 0 where
   pub effect : Option Effect
   pub after : Call
@@ -39,8 +40,8 @@ pub record HasStepped {S : Type 0} (number : ℕ) (call : Call) (answer : Answer
   pub history_is : new.history ≡ old.history ++ acts_of number effect
   pub calls_is : new.calls ≡ slice_set old.calls number after
 
--- the checkpoint before a step was refused with this fault, and the call of this number is given up for it: no action is appended, and no
--- other call is changed
+-- the checkpoint before a step was refused with this fault, and the call of this number is given up for it:
+-- no action is appended, and no other call is changed
 pub record IsGivenUpFor {S : Type 0} (g : Ghosts S) (number : ℕ) (call : Call) (answer : Answer) (old new : Moment S) : Type 0 where
   pub fault : Fault
   pub cause : HasCause (causes_of_forced (g.backing old.store) (g.backing new.store)) fault
@@ -57,13 +58,13 @@ SessionOneStepMeans g session answer old new =
 pub record OneStepIsRun {S : Type 0} (g : Ghosts S) (session least_room : ℕ) (answer : Answer) (old new : Moment S) : Type 0 where
   -- the session's call has made a step, or is given up
   pub told : SessionOneStepMeans g session answer old new
-  -- where it has none, nothing is told
+  -- if it has none, nothing is told
   pub idle : HasNone session old → IsSameHistory old new
   -- why it is refused
   pub caused : CallIsCaused g session least_room (is_full_vacuum (slot_of old.slots session)) answer old new
-  -- where it goes on, fewer steps are left
+  -- if it goes on, fewer steps are left
   pub fewer : TakesFewer (g.state old.store) (g.state new.store) (slot_of old.slots session) (slot_of new.slots session) answer
-  -- where it finishes, it tells how many pages there are
+  -- if it finishes, it tells how many pages there are
   pub stats : FinishCounts g session answer old new
 
 -- what holds of one step of a session's call whatever the pages are
@@ -81,17 +82,18 @@ pub record OneStepAlways {S : Type 0} (g : Ghosts S) (session : ℕ) (answer : A
   -- one that is blocked changes neither pages, calls and holdings nor a slot
   pub blocked : (block : ℕ) → answer ≡ Refused (Blocked block) → IsSameStore g old new
 
--- one of these answers was this; or the entry is added, and one was the refusal that it leaves unfinished
+-- one of these answers was this; or the entry is added, and one of them was the refusal with the fault in
+-- `unfinished`
 abbrev pub OneStepComesTo : Answer → List Answer → Type 0
 OneStepComesTo answer answers =
     IsAmong answers answer ⊎ ((action : ℕ) × (fault : Fault) × (answer ≡ Added action (Some fault)) × IsAmong answers (Refused fault))
 
--- the step itself, where the log has room for so many images
+-- the step itself, if the log has room for `least_room` images
 pub record IsStepMade {S : Type 0} (g : Ghosts S) (session least_room : ℕ) (answer : Answer) (old new : StoreAndSlots S) : Type 0 where
   pub room : RoomIsMade least_room (g.state old.store).limits (g.backing old.store)
   pub makes : EventEffect g (MovesCall session Steps) answer old new
 
--- a checkpoint before a step, where the log has too little room
+-- a checkpoint before a step, if the log has too little room
 pub record IsRoomTried {S : Type 0} (g : Ghosts S) (least_room : ℕ) (answer : Answer) (old new : StoreAndSlots S) : Type 0 where
   pub short : (g.backing old.store).room < least_room
   pub makes : EventEffect g (MaintainsStore Checkpoints) answer old new

@@ -26,13 +26,14 @@ pub record OneStepMore (Before : List Answer → Type 0) (answer : Answer) (answ
   pub ends : StepComesTo answer last
   pub answers_are : answers ≡ before ++ last
 
--- these are the answers of exactly so many steps, after each of which the call went on; of none there is no answer
+-- these are the answers of exactly this number of steps, after each of which the call went on; of none there
+-- is no answer
 abbrev pub StepsGoOn : ℕ → List Answer → Type 0
 StepsGoOn zero answers = answers ≡ []
 StepsGoOn (suc count) answers = OneStepMore (StepsGoOn count) Going answers
 
--- What a part came to that was to make so many steps. If the call goes on, it has made exactly so many; else fewer went on, and the next one
--- answered this. So a part of no steps does nothing.
+-- What a part came to that was to make `count` steps. If the call goes on, it has made exactly as many; else
+-- fewer went on, and the next one answered this. So a part of no steps does nothing.
 abbrev pub PartComesTo : ℕ → Answer → List Answer → Type 0
 PartComesTo count Going answers = StepsGoOn count answers
 PartComesTo count answer answers = (gone : ℕ) × (gone < count) × OneStepMore (StepsGoOn gone) answer answers
@@ -46,7 +47,8 @@ abbrev pub PartMeans : {S : Type 0} → ℕ → Answer → Moment S → Moment S
 PartMeans session Going old new = HasRunSoFar session old new
 PartMeans session answer old new = SessionStepMeans session answer old new
 
--- steps that went on, up to a moment that fits, and the last one; and what the session ran before that is the call that it ran at first
+-- steps that went on, up to a moment that fits, and the last one; and what the session ran before that is the
+-- call that it ran at first
 pub record PartEnds {S : Type 0} (g : Ghosts S) (session least_room : ℕ) (answer : Answer) (start : Entry → Bool) (old new : Moment S) : Type 0 where
   pub finish : FinishIsRun g session least_room answer start old new
   pub on : RunsOn (slot_of old.slots session) (slot_of finish.last.slots session)

@@ -42,10 +42,10 @@ is_full_vacuum (Some (Scan op)) = false
 is_full_vacuum (Some (Bulk set op)) = is_counted_out op
 is_full_vacuum (Some (Cleanup op)) = is_cleanup_full op
 
--- What may be the cause where a running call is refused between these moments, at a step or at the checkpoint before it: a
--- device call failed meanwhile; the log had failed before, or a counter is at its end; another session runs a call, and may hold
--- a page or a frame; there are fewer frames than one act needs. The log is full only where less room is asked for than one image
--- more than an act has.
+-- What may be the cause if a running call is refused between these moments, at a step or at the checkpoint
+-- before it: a device call failed meanwhile; the log had failed before, or a counter is at its end; another
+-- session runs a call, and may hold a page or a frame; there are fewer frames than one act needs. The log is
+-- full only if less room is asked for than one image more than an act has.
 abbrev pub causes_of_gone : {S : Type 0} → Ghosts S → ℕ → ℕ → Bool → StoreAndSlots S → S → Circumstances
 causes_of_gone g session least_room counts_full old new = record nothing_wrong {
   device_failed = has_failed (g.backing old.store) (g.backing new);
@@ -55,8 +55,8 @@ causes_of_gone g session least_room counts_full old new = record nothing_wrong {
   frames_are_pinned = another_runs old.slots session || nat_lt (g.state new).frames 4;
 }
 
--- ... of an insert also that its entry was there, or another row of its key, that no block can be had or that the root is on level 31,
--- as far as these say so
+-- ... of an insert also these, as far as the arguments say so: its entry was there, or another row of its
+-- key; no block can be had; the root is on level 31
 abbrev pub causes_of_inserted : {S : Type 0} → Ghosts S → ℕ → ℕ → Bool → (Row → Bool) → Bool → Bool → StoreAndSlots S → S → Circumstances
 causes_of_inserted g session least_room was_there key_was no_block tall old new = record (causes_of_gone g session least_room false old new) {
   entry_was_there = was_there;
@@ -77,9 +77,9 @@ has_no_block session number st = is_out_of_blocks (with_number session number st
 abbrev pub is_tall : State → Bool
 is_tall st = nat_le 31 (root_level st.pages)
 
--- What may be the cause where a call is refused that was asked this and has this start number, or leaves a split unfinished: of an
--- insert that may also be that its entry was there, on a unique index that its key was, that no block can be had while it runs, or
--- that the root is on level 31.
+-- What may be the cause if a call is refused that was asked this and has this start number, or leaves a split
+-- unfinished. Of an insert it may also be one of these: its entry was there; on a unique index, its key was
+-- there; no block can be had while it runs; the root is on level 31.
 abbrev pub causes_of_asked : {S : Type 0} → Ghosts S → ℕ → ℕ → Option ℕ → Bool → Ask → StoreAndSlots S → S → Circumstances
 causes_of_asked g session least_room number counts_full (AskInsert e) old new =
     causes_of_inserted g session least_room true (λ r. (g.state new).limits.unique) (has_no_block session number (g.state new)) (is_tall (g.state new)) old new
@@ -93,8 +93,9 @@ CallIsCaused g session least_room counts_full answer old new =
     (number : ℕ) (call : Call) → IsRunningCall old.calls session number call
     → IsCaused (causes_of_asked g session least_room (start_number (g.state old.store) session) counts_full call.ask (here_at old) new.store) answer
 
--- why a call is refused that is run from its beginning on: for one of these causes, or since it wasn't begun: the log had failed or a
--- counter was at its end; there is no such session, or no such set; the session has a call; a bulk delete or a cleanup runs
+-- why a call is refused that is run from its beginning on: for one of these causes, or because it couldn't
+-- begin: the log had failed or a counter was at its end; there is no such session, or no such set; the
+-- session has a call; a bulk delete or a cleanup runs
 abbrev pub causes_of_called : {S : Type 0} → Ghosts S → ℕ → Request → StoreAndSlots S → Circumstances → Circumstances
 causes_of_called g session request old at = record at {
   is_stopped = at.is_stopped || is_at_end (g.state old.store).begun;
@@ -103,8 +104,8 @@ causes_of_called g session request old at = record at {
   session_has_a_call = is_busy (slot_of old.slots session);
 }
 
--- why an insert answers this that is run to its end in the session: for its refusal, and for what it leaves unfinished; its start number
--- was the count of calls begun before it
+-- why an insert answers this that is run to its end in the session: a refusal has its cause, and so has the
+-- fault in `unfinished`; the insert's start number was the count of calls begun before it
 abbrev pub InsertCallIsCaused : {S : Type 0} → Ghosts S → ℕ → ℕ → Entry → StoreAndSlots S → S → Result Inserted Fault → Type 0
 InsertCallIsCaused g session least_room entry old new (Ok inserted) =
     IsFaultCaused (causes_of_inserted g session least_room false (λ r. false) (has_no_block session (Some (g.state old.store).begun) (g.state new)) (is_tall (g.state new)) old new) inserted.unfinished

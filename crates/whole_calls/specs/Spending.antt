@@ -13,8 +13,9 @@ abbrev pub brought_by : Option ℕ → ℕ
 brought_by None = 33
 brought_by (Some action) = 0
 
--- how many actions the call may append, at most, after which its steps are counted anew: each split that is finished leaves
--- the unfinished ones weighing less. Those of a bulk delete and of a cleanup are counted through.
+-- how many actions the call may append, at most, after which its steps are counted anew: each split that is
+-- finished leaves the unfinished ones weighing less. Those of a bulk delete and of a cleanup are counted
+-- through.
 abbrev pub acts_left : State → Option Op → ℕ
 acts_left st None = weight st
 acts_left st (Some (Insert op)) = weight st + brought_by op.added
@@ -26,7 +27,7 @@ acts_left st (Some (Cleanup op)) = 0
 abbrev pub steps_left : State → Option Op → ℕ
 steps_left st slot = acts_left st slot * 4398046511104 + work_in st slot
 
--- where the call goes on, within limits that are allowed, fewer steps are left
+-- if the call goes on, within limits that are allowed, fewer steps are left
 abbrev pub TakesFewer : State → State → Option Op → Option Op → Answer → Type 0
 TakesFewer old new before after answer =
     old.limits.pages ≤ 65536 → answer ≡ Going → steps_left new after < steps_left old before

@@ -1,5 +1,5 @@
--- A call that is begun, stepped and given up: what is told of it, why it is refused, and what is counted, by the moment before and the one
--- after.
+-- A call that is begun, stepped and given up: what is told of it, why it is refused, and what is counted, by
+-- the moment before and the one after.
 use Rattle.std.specs.Prelude.{◌≡◌, ◌⊎◌, ℕ, Bool, false, Option, None, Some, Result, Ok, slice_get}
 use Rattle.index_model.specs.Calls.{Call}
 use Rattle.index_model.specs.Faults.{HasCause}
@@ -42,9 +42,9 @@ abbrev pub FinishCounts : {S : Type 0} → Ghosts S → ℕ → Answer → Momen
 FinishCounts g session answer old new =
     (number : ℕ) (call : Call) → IsRunningCall old.calls session number call → (stats : VacuumStats) → answer ≡ Finished stats → StatsCountFor call.ask (g.state new.store) stats
 
--- What a step of the session's call tells, or the refusal of the room for it; why it is refused; what is counted on; that fewer steps are
--- left where it goes on, and each running call keeps its start number then; and the statistics where it finishes, after which the session
--- runs nothing.
+-- A step of the session's call, or the refusal of the room for it. It says what the step means, why it is
+-- refused, and what is counted. If the step goes on, fewer steps are left, and each running call keeps its
+-- start number. If it finishes, it says what the statistics are, and the session runs nothing then.
 pub record StepIsRun {S : Type 0} (g : Ghosts S) (session least_room : ℕ) (answer : Answer) (old new : Moment S) : Type 0 where
   pub told : SessionStepMeans session answer old new
   pub caused : CallIsCaused g session least_room (is_full_vacuum (slot_of old.slots session)) answer old new
@@ -71,8 +71,8 @@ pub record FinishIsRun {S : Type 0} (g : Ghosts S) (session least_room : ℕ) (a
   pub lasts : Lasts g session last new
   pub step : StepIsRun g session least_room answer last new
 
--- a call is begun, or nothing is told; what has begun has the count of calls begun before it for its start number; and what a vacuum
--- follows that has begun
+-- a call is begun, or nothing is told; what has begun has the count of calls begun before it for its start
+-- number; and what a vacuum follows that has begun
 pub record BeginIsRun {S : Type 0} (g : Ghosts S) (session : ℕ) (request : Request) (result : Result (Unit {0}) Fault) (old new : Moment S) : Type 0 where
   pub told : BeginMeans session request result old new
   pub number : result ≡ Ok tt → start_number (g.state new.store) session ≡ Some (g.state old.store).begun
@@ -86,8 +86,8 @@ pub record NotRun {S : Type 0} (g : Ghosts S) (session : ℕ) (request : Request
   pub told : NothingIsDone fault old new
   pub cause : HasCause (causes_of_begun_at g old.store (one_vacuums old.slots) old.sets request (slice_get old.slots session)) fault
 
--- the call was begun in a session with none, came to this answer, and was given up, so far as it still ran: its Add was this then; why
--- it was refused, and what is counted, and told, at its end
+-- The call was begun in a session with none, came to this answer, and was given up if it still ran. This was
+-- its Add then. It says why the call was refused, and what is counted and answered at its end.
 pub record HasCompleted {S : Type 0} (g : Ghosts S) (session least_room : ℕ) (request : Request) (answer : Answer) (added : Option ℕ) (start : Entry → Bool) (old new : Moment S) : Type 0 where
   pub here : Moment S
   pub fits : Fits g start here

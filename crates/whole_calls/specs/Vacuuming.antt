@@ -42,8 +42,8 @@ removed_of (Add e ∷ effects) = removed_of effects
 removed_of (Remove es ∷ effects) = es ++ removed_of effects
 removed_of (Shape ∷ effects) = removed_of effects
 
--- the actions of the bulk delete or cleanup that is asked for, one after the other, are its own; its call has finished with these
--- statistics
+-- the actions of the bulk delete or cleanup that is asked for, one after the other, are its own; its call has
+-- finished with these statistics
 pub record IsVacuumed {S : Type 0} (session : ℕ) (request : Request) (stats : VacuumStats) (old new : Moment S) : Type 0 where
   pub effects : List Effect
   pub own : AreOwnEffects (first_call session request old) (length old.history) effects
@@ -61,7 +61,8 @@ abbrev pub VacuumMeans : {S : Type 0} → ℕ → Request → Result VacuumStats
 VacuumMeans session request (Ok stats) old new = IsVacuumed session request stats old new
 VacuumMeans session request (Err fault) old new = IsVacuumedSoFar session request old new
 
--- the statistics tell how many pages are in use, how many of them are deleted, and how many of these may be used again
+-- the statistics tell how many pages are in use, how many of them are deleted, and how many of these may be
+-- used again
 pub record StatsCountPages (st : State) (stats : VacuumStats) : Type 0 where
   pub in_use : stats.num_pages ≡ length st.pages
   pub deleted : stats.pages_deleted ≡ deleted_count st (length st.pages)
@@ -79,13 +80,14 @@ pub data Followed : Type 0 where
   of_bulk_delete : Followed
   -- those that a cleanup counts, and the half-dead pages
   of_cleanup : Followed
-  -- the pages that a cleanup deletes, beside so many that were deleted before
+  -- the pages that a cleanup deletes, beside `was` pages that were deleted before
   of_deleted : (was : ℕ) → Followed
-  -- where nobody else holds a page, the empty leaves that a cleanup leaves
+  -- if nobody else holds a page, the empty leaves that a cleanup leaves
   of_leaves : Followed
 
--- such a vacuum runs, and what it has counted are the entries that it has left; a cleanup leaves no half-dead page after it, nor
--- an empty leaf that might leave the tree, and has counted the pages that it has deleted
+-- such a vacuum runs, and what it has counted are the entries that it has left; a cleanup leaves no half-dead
+-- page that it has passed, nor an empty leaf that might leave the tree, and has counted the pages that it has
+-- deleted
 abbrev pub IsCountedAs : Followed → DeadSets → State → Option Op → Type 0
 IsCountedAs what sets st None = ⊥
 IsCountedAs what sets st (Some (Insert op)) = ⊥
@@ -113,7 +115,7 @@ abbrev pub StatsCountCleaned : State → Result VacuumStats Fault → Type 0
 StatsCountCleaned st (Ok stats) = AllIsCleaned st stats.num_index_tuples
 StatsCountCleaned st (Err fault) = Unit {0}
 
--- the statistics tell how many pages are deleted now, beside so many that were deleted before
+-- the statistics tell how many pages are deleted now, beside `was` pages that were deleted before
 abbrev pub StatsCountDeleted : ℕ → State → Result VacuumStats Fault → Type 0
 StatsCountDeleted was st (Ok stats) = deleted_in st ≡ was + stats.pages_newly_deleted
 StatsCountDeleted was st (Err fault) = Unit {0}
@@ -130,8 +132,8 @@ StatsCountAs of_cleanup st result = StatsCountCleaned st result
 StatsCountAs (of_deleted was) st result = StatsCountDeleted was st result
 StatsCountAs of_leaves st result = ResultLeavesNeeded st result
 
--- where nobody else acts: a bulk delete or a cleanup that goes on counts on, also after a refusal that hasn't ended it; and at its end it tells
--- how many entries there are
+-- if nobody else acts: a bulk delete or a cleanup that goes on counts on, also after a refusal that hasn't
+-- ended it; and at its end it tells how many entries there are
 abbrev pub CountsThrough : Followed → DeadSets → State → State → Option Op → Option Op → Answer → Type 0
 CountsThrough what sets old new before after Going = IsCountedAs what sets old before → IsCountedAs what sets new after
 CountsThrough what sets old new before after (Finished stats) = IsCountedAs what sets old before → StatsCountAs what new (Ok stats)
@@ -148,7 +150,8 @@ pub record IsUndisturbed (st : State) (session : ℕ) : Type 0 where
   pub alone : IsAlone st session
   pub none_dead : (block : ℕ) → state_in st block ≢ HalfDead
 
--- what may be followed from the beginning of what is asked for: of the leaves that a cleanup leaves only where it is undisturbed
+-- what may be followed from the beginning of what is asked for: of the leaves that a cleanup leaves only
+-- if it is undisturbed
 abbrev pub FollowsFrom : Followed → Request → State → ℕ → Type 0
 FollowsFrom of_bulk_delete (ToBulk set) st session = Unit {0}
 FollowsFrom of_cleanup ToCleanup st session = Unit {0}

@@ -23,7 +23,7 @@ use page_action::PageStore;
 use schedule::next;
 use session_calls::{Answer, Calls, Request};
 
-// The next entry that the session's scan has ready; where none is, one step of it.
+// The next entry that the session's scan has ready; if none is, one step of it.
 fn advance<S: PageStore, T: DeadRows>(
     store: &mut S,
     calls: &mut Calls,
@@ -101,10 +101,10 @@ fn given(came: Answer) -> Result<Option<Entry>, Fault>
     }
 }
 
-/// The next entry of the session's scan, or None where it has given all; it is over then, and where
-/// it is refused: as a step of it is, and with `Io` (2) or `Stopped` (3) where a checkpoint before
-/// a step is; over a device that breaks its model also with `PageDamaged(0)` (17), after 2^64 - 1
-/// steps.
+/// The next entry of the session's scan, or None if it has given all: the scan is over then. A refusal ends
+/// it too. It is refused as a step of it is, and with `Io` (2) or `Stopped` (3) if a checkpoint before a step
+/// is refused so. Over a device that breaks its model it is also refused with `PageDamaged(0)` (17), after
+/// 2^64 - 1 steps.
 pub fn give<S: PageStore, T: DeadRows>(
     store: &mut S,
     calls: &mut Calls,

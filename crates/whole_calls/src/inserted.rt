@@ -7,6 +7,6 @@ use index_model::Fault;
 pub struct Inserted {
     /// The number of the action that added it, counted from 1 since opening.
     pub action: u64,
-    /// The fault that kept a split from being finished; None where none was left unfinished.
+    /// The fault that kept a split from being finished; None if none was left unfinished.
     pub unfinished: Option<Fault>,
 }

@@ -25,10 +25,10 @@ fn cut_short(added: Option<u64>, fault: Fault) -> Answer
     }
 }
 
-/// One step of the session's call, as the event `Step` makes it, and what it answers. Where the log
-/// has room for fewer than `least_room` images, a checkpoint is made before. Where that is refused,
-/// with `Io` (2) or `Stopped` (3), the call is given up and answers this fault: an insert whose
-/// entry is added leaves it unfinished, any other call is refused with it.
+/// One step of the session's call, as the event `Step` makes it, and what it answers. If the log has room for
+/// fewer than `least_room` images, a checkpoint is made before. If that is refused, with `Io` (2) or
+/// `Stopped` (3), the call is given up because of this fault. An insert whose entry is added answers it in
+/// `unfinished`; any other call is refused with it.
 pub fn take_step<S: PageStore, T: DeadRows>(
     store: &mut S,
     calls: &mut Calls,

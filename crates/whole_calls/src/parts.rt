@@ -14,9 +14,10 @@ use index_model::DeadRows;
 use page_action::PageStore;
 use session_calls::{Answer, Calls};
 
-/// So many steps of the session's call: until one doesn't answer `Going`, and that answer; after the last, `Going`. No steps do
-/// nothing. Where a step is refused with `Blocked` (4), or a checkpoint before a step is refused, the call runs on, and the next
-/// part tries that step again; any other refusal of a step ends it.
+/// Makes `count` steps of the session's call, until one doesn't answer `Going`, and gives that answer; after
+/// the last, `Going`. No steps do nothing. If a step is refused with `Blocked` (4), or a checkpoint before a
+/// step is refused, the call runs on, and the next part tries that step again; any other refusal of a step
+/// ends it.
 pub fn take_steps<S: PageStore, T: DeadRows>(
     store: &mut S,
     calls: &mut Calls,
@@ -30,7 +31,7 @@ pub fn take_steps<S: PageStore, T: DeadRows>(
     ensures goes { CallIsRunFrom S.PageStore session (PartIsRun S.PageStore session least_room result)
         (part_outcome result) (here T.DeadRows store.old calls.old sets.now)
         (here T.DeadRows store.new calls.new sets.now) }
-    // Whatever the pages are; and if the call goes on, exactly so many steps were made.
+    // Whatever the pages are; and if the call goes on, exactly `count` steps were made.
     ensures made { IsMadeOf S.PageStore session least_room (PartComesTo count result)
         (here T.DeadRows store.old calls.old sets.now)
         (here T.DeadRows store.new calls.new sets.now) }

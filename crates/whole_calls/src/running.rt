@@ -1,6 +1,7 @@
 //! Calls that run to their end. Before each step for which the log has room for fewer than
 //! `least_room` images a checkpoint is made; one that is refused counts as the refusal of the step.
-//! With 0 none is made. Each step is given the sets of dead rows that calls name by their places.
+//! If `least_room` is 0, no checkpoint is made. Each step is given the sets of dead rows that calls name by
+//! their places.
 
 ghost use Rattle.std.specs.Prelude.{◌≡◌, ◌≢◌, ◌≤◌, ℕ, true, List, Option, Some, None, OnOk, OnErr, IfErr, map, slice_get};
 ghost use Rattle.index_model.specs.Faults.{HasCause};
@@ -33,13 +34,13 @@ use schedule::{Event, checkpoint, one};
 use session_calls::{Answer, Calls, Request};
 use vacuum::nothing_is_counted;
 
-// Room for one more act: where there is less, a checkpoint is made.
+// Room for one more act: if there is less, a checkpoint is made.
 pub(crate) fn make_room<S: PageStore>(store: &mut S, least_room: u32) -> Result<(), Fault>
     ensures steps { Continues S.follows store.old store.new }
     ensures goes { (session : ℕ) (slots : List (Option Op)) (sets : DeadSets)
         → CallIsRun S.PageStore session (RoomMeans S.PageStore) (room_outcome result)
         (here_with store.old slots sets) (here_with store.new slots sets) }
-    // Where the log has the room, none is made.
+    // If the log has the room, none is made.
     ensures made { (session : ℕ) (slots : List (Option Op)) (sets : DeadSets)
         → IsMadeOf S.PageStore session least_room (λ answers. IsOutcomeOf answers (room_outcome result))
         (here_with store.old slots sets) (here_with store.new slots sets) }
@@ -65,7 +66,7 @@ pub(crate) fn make_room<S: PageStore>(store: &mut S, least_room: u32) -> Result<
 }
 
 // One step of the session's call, for which there is room in the log. Refused, with no step made,
-// where the room can't be made.
+// if the room can't be made.
 pub(crate) fn step<S: PageStore, T: DeadRows>(
     store: &mut S,
     calls: &mut Calls,
@@ -98,8 +99,8 @@ pub(crate) fn step<S: PageStore, T: DeadRows>(
     }
 }
 
-// Steps of the session's call until one doesn't answer `Going`, and that answer. Over a device that
-// breaks its model also refused with `PageDamaged(0)` (17), after 2^64 - 1 steps.
+// Makes steps of the session's call until one doesn't answer `Going`, and gives that answer. Over a device
+// that breaks its model it is also refused with `PageDamaged(0)` (17), after 2^64 - 1 steps.
 fn finish<S: PageStore, T: DeadRows>(
     store: &mut S,
     calls: &mut Calls,
@@ -143,7 +144,7 @@ fn begun(answer: Answer) -> Result<(), Fault>
     }
 }
 
-/// Begins a call, which is run in parts. Refused with `Stopped` (3), `NoSession` (12), also where a
+/// Begins a call, which is run in parts. Refused with `Stopped` (3), `NoSession` (12), also if a
 /// bulk delete's set isn't there, `SessionBusy` (13), and of a bulk delete or a cleanup
 /// `VacuumRunning` (11), in this order; nothing is changed then.
 pub fn begin<S: PageStore, T: DeadRows>(
@@ -181,12 +182,12 @@ pub fn begin<S: PageStore, T: DeadRows>(
 pub(crate) struct CallOutcome {
     // Its last answer, or the refusal of its beginning.
     pub(crate) answer: Answer,
-    // The number of the action that added an insert's entry, where it still ran then.
+    // The number of the action that added an insert's entry, if it still ran then.
     pub(crate) added: Option<u64>,
 }
 
 // A call that is begun, run to its last answer and given up, if it still runs then. Refused, and
-// nothing is changed, where it can't be begun.
+// nothing is changed, if it can't be begun.
 pub(crate) fn run_call<S: PageStore, T: DeadRows>(
     store: &mut S,
     calls: &mut Calls,
@@ -224,8 +225,8 @@ pub(crate) fn run_call<S: PageStore, T: DeadRows>(
     CallOutcome { answer, added }
 }
 
-// What an insert answers that is refused: where its entry is added, the fault is what it leaves
-// after.
+// What an insert answers to this fault. If its entry is added, the fault stands in `unfinished`. Else the
+// insert is refused.
 fn refused(added: Option<u64>, fault: Fault) -> Result<Inserted, Fault>
     ensures { result ≡ left_behind added fault }
 {
@@ -283,10 +284,10 @@ pub fn give_up<S: PageStore, T: DeadRows>(
     let _answer = one(store, calls, sets, Event::End(session));
 }
 
-/// An insert, run to its end in a session. Refused as the beginning of a call is: with `Stopped`
-/// (3), `NoSession` (12), `SessionBusy` (13), in this order; nothing is changed then. Where a step
-/// of it is refused, it is given up: refused then too, unless its entry is added, when the fault
-/// stands in `unfinished`.
+/// An insert, run to its end in a session. Refused as the beginning of a call is: with `Stopped` (3),
+/// `NoSession` (12), `SessionBusy` (13), in this order; nothing is changed then. If a step of it is refused,
+/// it is given up. The insert is refused then too, unless its entry is added: then the fault stands in
+/// `unfinished`.
 pub fn insert<S: PageStore, T: DeadRows>(
     store: &mut S,
     calls: &mut Calls,

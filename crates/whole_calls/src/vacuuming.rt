@@ -30,10 +30,10 @@ fn as_stats(came: Answer) -> Result<VacuumStats, Fault>
 }
 
 /// A bulk delete of the set at this place among the sets, run to its end in a session. Refused as
-/// the beginning of a call is: with `Stopped` (3), `NoSession` (12), also where the set isn't
-/// there, `SessionBusy` (13), `VacuumRunning` (11), in this order; nothing is changed then. Where a
+/// the beginning of a call is: with `Stopped` (3), `NoSession` (12), also if the set isn't
+/// there, `SessionBusy` (13), `VacuumRunning` (11), in this order; nothing is changed then. If a
 /// step of it is refused, or a checkpoint before one, it is given up and refused too: with
-/// `Blocked` (4) where another session's scan stands on a leaf, with `Io` (2), `Stopped` (3),
+/// `Blocked` (4) if another session's scan stands on a leaf, with `Io` (2), `Stopped` (3),
 /// `LogFull` (9), `NoFrame` (10), and on pages that are no tree with `PageDamaged` (17); what it
 /// has removed stays removed.
 pub fn bulk_delete<S: PageStore, T: DeadRows>(
@@ -76,8 +76,8 @@ pub fn bulk_delete<S: PageStore, T: DeadRows>(
 
 /// A cleanup run to its end in a session: empty leaves leave the tree, and the contents stay.
 /// Refused as the beginning of a call is: with `Stopped` (3), `NoSession` (12), `SessionBusy` (13),
-/// `VacuumRunning` (11), in this order; nothing is changed then. Where a step of it is refused, or
-/// a checkpoint before one, it is given up and refused too: with `Blocked` (4) where another
+/// `VacuumRunning` (11), in this order; nothing is changed then. If a step of it is refused, or
+/// a checkpoint before one, it is given up and refused too: with `Blocked` (4) if another
 /// session holds a page, with `Io` (2), `Stopped` (3), `LogFull` (9), `NoFrame` (10), and on pages
 /// that are no tree with `PageDamaged` (17); the contents stay then too.
 pub fn clean_up<S: PageStore, T: DeadRows>(

@@ -10,7 +10,7 @@ use Rattle.page_delete.proofs.unlinking.unlink_between.Given.{Over}
 use Rattle.page_delete.proofs.unlinking.unlink_between.Goals.{After-act_between}
 use Rattle.page_delete.proofs.unlinking.unlink_between.Goals as goal
 
--- what was read is so, where the device kept its model
+-- what was read is so, if the device kept its model
 module _ (g : Over) (c : After-act_between g) (honest : (g.S.PageStore.backing c.args.store.now).honest ≡ true) where
   abbrev st : State
   st = g.S.PageStore.state c.args.store.now

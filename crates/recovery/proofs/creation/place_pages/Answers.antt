@@ -14,7 +14,7 @@ zeros_go g c =
     let limits = c.args.limits.now in
     wider_goes (place limits 2) (4096 * (limits.pages - 2)) (place limits 0) (4096 * limits.pages) _ _ (omega arith) (omega (arith, c.requires.allowed.pages_from)) c.place_zeros.ensures.moments
 
--- also where one page more is written, at a block of the first two
+-- also if one page more is written, at a block of the first two
 page_goes : (limits : Format) (block : ℕ) (t u v : Trace) → block < 2 → 2 ≤ limits.pages → PagesGo limits t u → AtEachMoment (ChangesOnly (place limits block) 4096 u.now) u v → PagesGo limits t v
 page_goes limits block t u v below few = more_goes (place limits block) 4096 (place limits 0) (4096 * limits.pages) t u v (omega arith) (omega arith)
 

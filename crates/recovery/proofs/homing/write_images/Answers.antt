@@ -11,7 +11,7 @@ returns-in_err-place-clause-moments g c =
     (named_goes c.args.limits c.args.found.now c.loop-block.block _ c.in-Some.bytes.now (g.D.Device.trace c.loop-block.device) _
     c.in-Some.ensures.kept c.in-Some.ensures.len c.page_place.ensures c.place.ensures.moments _ c.loop-block-test.true c.loop-block.invariant.now)
 
--- what was written up to a block, where the device stands so
+-- what was written up to a block, if the device stands so
 abbrev Written : (g : Over) → Joined-image g → g.row.D.Denot → Type 0
 Written g c device =
     let trace = g.D.Device.trace in

@@ -9,7 +9,8 @@ use Rattle.schedule.proofs.one_event.run.Goals as goal
 after_more : (before answers : List Answer) (answer : Answer) → length before ≤ length answers → answers_after before (answers ++ answer ∷ []) ≡ answers_after before answers ++ answer ∷ []
 after_more before answers answer le = drop-append-le (length before) answers (answer ∷ []) le
 
--- what holds of some events and answers, with one of each more, holds of the first events and of the answers put after those before
+-- what holds of some events and answers, with one of each more, holds of the first events and of the answers
+-- put after those before
 grown : (Holds : List Event → List Answer → Type 0) (taken some : List Event) (event : Event) (before answers pushed : List Answer) (answer : Answer)
     → some ≡ taken ++ event ∷ [] → pushed ≡ answers ++ answer ∷ [] → length before ≤ length answers → Holds (taken ++ event ∷ []) (answers_after before answers ++ answer ∷ [])
     → Holds some (answers_after before pushed)

@@ -41,7 +41,7 @@ returns-in_default-clause-goes g c session slots sets =
 pub returns-then-room-least_room-clause-made : goal.returns-then-room-least_room-clause-made
 returns-then-room-least_room-clause-made g c session slots sets = made_nowhere tt
 
--- it is tried where the log has too little room
+-- it is tried if the log has too little room
 short : (g : Over) (c : After-checkpoint g) (slots : List (Option Op)) (sets : DeadSets)
     → IsRoomTried g.S.PageStore c.args.least_room c.checkpoint.result (here_with c.args.store.now slots sets) (here_with c.checkpoint.new.store slots sets)
 short g c slots sets =

@@ -7,7 +7,7 @@ use Rattle.amcheck.proofs.pages.Pages.links.Goals as goal
 found : (c : After-index) → slice_get c.self.inside.sketches.items c.args.block ≡ Some c.index.result.now
 found c = slice_get_at c.self.inside.sketches.items c.args.block c.index.result.now (omega (arith, c.if-block-len.false, c.len.ensures)) c.index.ensures
 
--- where its downlinks are kept
+-- its downlinks stand at the place that the sketch names
 kept_at : (c : After-index) → links_at c.self.inside.whole.items c.index.result.now.place ≡ (nodes_of c.args.self.now c.args.block).links
 kept_at c =
     links_are c.self.inside.list.pages c.self.inside.whole.items c.self.inside.sketches.items c.self.invariant c.args.block c.index.result.now (found c)

@@ -4,7 +4,7 @@ use Rattle.buffer_pool.proofs.Waiting.{window_long, dropped}
 use Rattle.buffer_pool.proofs.order.Order.drop_first.Goals.{Start}
 use Rattle.buffer_pool.proofs.order.Order.drop_first.Goals as goal
 
--- so many wait
+-- no more are taken out than wait
 few : (c : Start) → c.args.count ≤ c.args.self.now.count
 unfolding waiting_in
 few c = omega (arith, c.requires, window_long c.args.self.now.blocks.keys c.args.self.now.first c.args.self.now.count c.args.self.now.within)

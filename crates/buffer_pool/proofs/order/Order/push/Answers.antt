@@ -10,7 +10,7 @@ is_key : (order : Order) (block : ℕ) → block < width_of order → has_block 
 unfolding width_of
 is_key order block below = sym (contains_has order.blocks.keys block) ∙ (order.whole block ∙ lt-ltb block (length order.blocks.keys) below)
 
--- where one of them doesn't wait, not all do
+-- if one of them doesn't wait, not all do
 not_all : (order : Order) (block : ℕ) → block < width_of order → has_block (waiting_in order) block ≡ false → length (waiting_in order) < width_of order
 unfolding waiting_in width_of
 not_all order block below fresh =

@@ -2,7 +2,7 @@ use Rattle.std.proofs.Common.{List, ℕ, [], refl, sym, subst, arith}
 use Rattle.buffer_pool.proofs.Imports.{Page, blocks_in, AreChanged}
 use Rattle.buffer_pool.proofs.pool.Pool.new.Goals as goal
 
--- where nothing is held, nothing is changed
+-- if nothing is held, nothing is changed
 none_changed : AreChanged [] [] []
 none_changed = record { told = λ block. refl; apart = λ i j d less within. absurd (omega (arith, within)); counted = refl }
 

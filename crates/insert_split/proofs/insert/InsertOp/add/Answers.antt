@@ -12,7 +12,7 @@ use Rattle.insert_split.proofs.insert.InsertOp.add.Goals as goal
 stored : (g : Over) (c : After-view-found g) → IsStored (g.S.PageStore.state c.args.store.now).limits c.args.block c.view-found.result.now
 stored g c = subst (λ (st : State). IsStored st.limits c.args.block c.view-found.result.now) c.fetch.ensures.state c.view-found.ensures.stored
 
--- ... and the one in use, where the device kept its model
+-- ... and the one in use, if the device kept its model
 found : (g : Over) (c : After-view-found g) → (g.S.PageStore.backing c.fetch.new.self).honest ≡ true
     → slice_get (g.S.PageStore.state c.args.store.now).pages c.args.block ≡ Some c.view-found.result.now
 found g c honest = subst (λ (st : State). slice_get st.pages c.args.block ≡ Some c.view-found.result.now) c.fetch.ensures.state (c.view-found.ensures.page honest)

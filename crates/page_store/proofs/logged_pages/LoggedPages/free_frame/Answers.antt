@@ -24,7 +24,7 @@ ahead g c =
     (quiet_both g.D.Device c.args.self.now c.choose-choice.new.self c.write_over.new.self c.choose-choice.ensures.quiet c.write_over.ensures.quiet)
     c.write_ahead.ensures.quiet
 
--- where the act of the first one is durable, the log isn't forced for it
+-- if the act of the first one is durable, the log isn't forced for it
 stays_first : (g : Over) (c : After-write_over g) → c.in-Oldest.act ≤ c.args.self.now.durable
     → LogStays (backing_of (held_of g.D.Device c.args.self.now)) (backing_of (held_of g.D.Device c.write_over.new.self))
 stays_first g c early =

@@ -13,7 +13,7 @@ use Rattle.vacuum.proofs.steps.BulkDeleteOp.read.Goals as goal
 stored : (g : Over) (c : After-view-page g) → IsStored (g.S.PageStore.state c.args.store.now).limits c.args.block c.view-page.result.now
 stored g c = subst (λ (st : State). IsStored st.limits c.args.block c.view-page.result.now) c.read_shared.ensures.state c.view-page.ensures.stored
 
--- ... and the one in use, where the device kept its model
+-- ... and the one in use, if the device kept its model
 found : (g : Over) (c : After-view-page g) → (g.S.PageStore.backing c.read_shared.new.store).honest ≡ true → slice_get (g.S.PageStore.state c.args.store.now).pages c.args.block ≡ Some c.view-page.result.now
 found g c honest = subst (λ (st : State). slice_get st.pages c.args.block ≡ Some c.view-page.result.now) c.read_shared.ensures.state (c.view-page.ensures.page honest)
 
