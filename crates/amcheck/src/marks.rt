@@ -16,7 +16,7 @@ pub(crate) struct Met {
 }
 
 impl Met {
-    /// None so far, and the room for all blocks in use. Refused with `NoMemory`.
+    /// None so far, and the room for all blocks in use. Refused with `NoMemory` (1).
     pub(crate) fn new(alloc: Global, used: u32) -> Result<Met, Fault>
         ensures made { IfOk result (λ met. IsMet met used) }
         ensures none { IfOk result (λ met. met.blocks.items ≡ []) }

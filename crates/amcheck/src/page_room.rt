@@ -42,7 +42,7 @@ fn keep_links(whole: &mut Vec<Page>, page: &Page) -> Option<u32>
 }
 
 impl PageRoom {
-    /// The room for `used` pages. Refused with `NoMemory`.
+    /// The room for `used` pages. Refused with `NoMemory` (1).
     pub(crate) fn new(alloc: Global, used: u32) -> Result<PageRoom, Fault>
         ensures made { IfOk result (λ room. HasPageRoom room used) }
         ensures none { IfOk result (λ room. room.list.pages ≡ []) }

@@ -33,7 +33,7 @@ pub(crate) struct Room {
 }
 
 impl Room {
-    /// The room to check `used` pages. Refused with `NoMemory`.
+    /// The room to check `used` pages. Refused with `NoMemory` (1).
     pub(crate) fn new(alloc: Global, used: u32) -> Result<Room, Fault>
         ensures made { IfOk result (λ room. RoomIsReady room used) }
         ensures fault { IfErr result (λ f. f ≡ Fault.NoMemory) }

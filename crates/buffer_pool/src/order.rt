@@ -26,8 +26,8 @@ impl Order {
     ghost use Rattle.buffer_pool.specs.Frames.{has_block};
     ghost use Rattle.buffer_pool.specs.Orders.{waiting_in, width_of};
 
-    /// Room for the blocks below this number, of which none waits. Refused with `NoMemory` if it cannot be
-    /// had.
+    /// Room for the blocks below this number, of which none waits. Refused with `NoMemory` (1) if it cannot
+    /// be had.
     pub fn new(alloc: Global, width: u32) -> Result<Order, Fault>
         ensures none { IfOk result (λ order. waiting_in order ≡ []) }
         ensures width { IfOk result (λ order. width_of order ≡ width) }

@@ -43,7 +43,7 @@ impl Pool {
     ghost use Rattle.buffer_pool.specs.Pools.{most_of, reach_of, pool_count, page_at, frame_of, held_page, changed_of, CanBeTaken, HasSamePages, HasSameChanges, IsPut, IsPool};
 
     /// A pool of `frames` frames, for pages of the blocks below `pages`, that holds none. Refused with
-    /// `NoMemory` if the room cannot be had.
+    /// `NoMemory` (1) if the room cannot be had.
     #[tactic(auto, unfolding(crate::specs::Pools::most_of, crate::specs::Pools::reach_of, crate::specs::Pools::pool_count, crate::specs::Pools::held_page, crate::specs::Pools::changed_of))]
     pub fn new(alloc: Global, frames: u32, pages: u32) -> Result<Pool, Fault>
         ensures most { IfOk result (λ pool. most_of pool ≡ frames) }

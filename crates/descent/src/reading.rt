@@ -15,7 +15,7 @@ use page_action::PageStore;
 use page_codec::Page;
 
 /// Brings a page into memory that the session may latch shared, and latches nothing: [`PageStore::view`]
-/// shows it. Refused with `Stopped`, `Blocked`, and with the faults of [`PageStore::fetch`].
+/// shows it. Refused with `Stopped` (3), `Blocked` (4), and with the faults of [`PageStore::fetch`].
 pub fn read_shared<S: PageStore>(store: &mut S, session: Session, block: u32) -> Result<(), Fault>
     ensures steps { Continues S.follows store.old store.new }
     ensures state { S.state store.new ≡ S.state store.old }
@@ -65,8 +65,8 @@ pub fn check_latch<S: PageStore>(
     store.ask(session, block, mode)
 }
 
-/// Reads a page that the step may change: no other session holds it. Refused with `Stopped`, `Blocked`, and
-/// with the faults of [`PageStore::page`].
+/// Reads a page that the step may change: no other session holds it. Refused with `Stopped` (3), `Blocked`
+/// (4), and with the faults of [`PageStore::page`].
 pub fn read_exclusive<S: PageStore>(
     store: &mut S,
     session: Session,
@@ -101,8 +101,8 @@ pub fn read_exclusive<S: PageStore>(
 }
 
 /// Reads two pages that no other session holds, and that the step may change, into two that stand ready.
-/// Refused with `Stopped`, then with `Blocked` for the first page before the second, then with the faults of
-/// [`PageStore::fetch`] likewise: what stands in the two has no meaning then.
+/// Refused with `Stopped` (3), then with `Blocked` (4) for the first page before the second, then with the
+/// faults of [`PageStore::fetch`] likewise: what stands in the two has no meaning then.
 pub fn read_both<S: PageStore>(
     store: &mut S,
     session: Session,

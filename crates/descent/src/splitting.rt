@@ -20,7 +20,7 @@ use tree_shape::may_be_mended;
 
 /// Reads the right sibling of a page that is split, if there is one, into a page that stands ready. The
 /// sibling's left link is to be mended. Answers whether there is one. Refused as
-/// [`read_exclusive`](crate::read_exclusive), and with `PageDamaged` for a page that has no left link to
+/// [`read_exclusive`](crate::read_exclusive), and with `PageDamaged` (17) for a page that has no left link to
 /// mend: the metapage, or a deleted page. If none was read, what stands in the page has no meaning.
 pub fn read_right<S: PageStore>(
     store: &mut S,
@@ -60,8 +60,8 @@ pub fn read_right<S: PageStore>(
     Ok(true)
 }
 
-/// The block of a new page, which no other session holds. Refused with `IndexFull` if there is none, and
-/// with `Blocked`.
+/// The block of a new page, which no other session holds. Refused with `IndexFull` (8) if there is none, and
+/// with `Blocked` (4).
 pub fn take_block<S: PageStore>(store: &mut S, session: Session) -> Result<u32, Fault>
     ensures steps { Continues S.follows store.old store.new }
     ensures state { S.state store.new ≡ S.state store.old }
@@ -87,7 +87,7 @@ pub fn take_block<S: PageStore>(store: &mut S, session: Session) -> Result<u32, 
 }
 
 /// Changes one to four pages at once, which may be any, and answers the number of the act. Refused with
-/// `PageDamaged` for a page that may not be changed beside those after it, and with the faults of
+/// `PageDamaged` (17) for a page that may not be changed beside those after it, and with the faults of
 /// [`PageStore::act`].
 pub fn act_on<S: PageStore>(store: &mut S, pages: &[Page]) -> Result<u64, Fault>
     requires some { 1 ≤ length pages.now }

@@ -35,7 +35,7 @@ impl Model for CallRoom {
 }
 
 impl CallRoom {
-    /// Refused with `NoMemory` if it cannot be had.
+    /// Refused with `NoMemory` (1) if it cannot be had.
     pub fn new(alloc: Global) -> Result<CallRoom, Fault>
         ensures fault { IfErr result (λ f. f ≡ Fault.NoMemory) }
     {

@@ -210,7 +210,8 @@ impl<D: Device> LoggedPages<D> {
     }
 
     /// Brings the page of a block in use into memory, while the pages of these blocks are pinned. Refused
-    /// with `NoFrame`, `Io` and `Stopped`, and with `PageDamaged` if the device breaks its model.
+    /// with `NoFrame` (10), `Io` (2) and `Stopped` (3), and with `PageDamaged` (17) if the device breaks its
+    /// model.
     pub fn fetch(&mut self, block: u32, pinned: &[u32]) -> Result<(), Fault>
         requires used { block < self.old.used }
         ensures quiet { IsSameButWritten D.Device self.old self.new }
@@ -306,7 +307,7 @@ impl<D: Device> LoggedPages<D> {
     }
 
     /// Takes a frame for each of these pages, while the pages of these blocks are pinned, their own among
-    /// them. Refused with `NoFrame`, `Io` and `Stopped`.
+    /// them. Refused with `NoFrame` (10), `Io` (2) and `Stopped` (3).
     pub fn take_frames(&mut self, pages: &[Page], pinned: &[u32]) -> Result<(), Fault>
         requires actable { AreActable self.old.limits (length (pages_now self.old.history)) pages.now }
         requires pinned { All (λ page. has_block pinned.now page.block ≡ true) pages.now }

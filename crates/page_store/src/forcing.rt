@@ -22,7 +22,7 @@ use index_model::Fault;
 use redo_log::Advance;
 
 impl<D: Device> LoggedPages<D> {
-    /// Makes all acts durable. Refused with `Io` and `Stopped`.
+    /// Makes all acts durable. Refused with `Io` (2) and `Stopped` (3).
     pub fn force(&mut self) -> Result<u64, Fault>
         ensures steps { Follows (held_of D.Device self.old) (held_of D.Device self.new) }
         ensures pages { SamePages D.Device self.old self.new }
@@ -53,8 +53,8 @@ impl<D: Device> LoggedPages<D> {
         Ok(self.acts)
     }
 
-    /// Does the next part of a force, except for its last sync, as the log does. Refused with `Io` and
-    /// `Stopped`.
+    /// Does the next part of a force, except for its last sync, as the log does. Refused with `Io` (2) and
+    /// `Stopped` (3).
     pub fn advance(&mut self) -> Result<Advance, Fault>
         ensures steps { Follows (held_of D.Device self.old) (held_of D.Device self.new) }
         ensures pages { SamePages D.Device self.old self.new }
@@ -124,7 +124,8 @@ impl<D: Device> LoggedPages<D> {
     }
 
     /// Writes the changed page at this place of their order to its place, and makes its acts durable before.
-    /// Refused with `Io` and `Stopped`; the page is changed then as before, at its place of the order.
+    /// Refused with `Io` (2) and `Stopped` (3); the page is changed then as before, at its place of the
+    /// order.
     pub(crate) fn write_changed(&mut self, place: usize, block: u32, act: u64) -> Result<(), Fault>
         requires at { slice_get (changed_of self.old.pool) place ≡ Some block }
         requires act { act ≡ act_of self.old.pool block }
@@ -161,8 +162,8 @@ impl<D: Device> LoggedPages<D> {
     }
 
     /// Writes the page whose first change since it was last written is the earliest to its place, and makes
-    /// its acts durable before. None: no page is changed. Refused with `Io` and `Stopped`; the page is
-    /// changed then as before.
+    /// its acts durable before. None: no page is changed. Refused with `Io` (2) and `Stopped` (3); the page
+    /// is changed then as before.
     pub fn flush(&mut self) -> Result<Option<u32>, Fault>
         ensures quiet { IsSameButWritten D.Device self.old self.new }
         ensures block { IfOk result (λ b. b ≡ slice_get (changed_of self.old.pool) 0) }
@@ -291,7 +292,7 @@ impl<D: Device> LoggedPages<D> {
     }
 
     /// Makes all acts durable, writes each changed page to its place and closes the log. Refused with `Io`
-    /// and `Stopped`; if a page could not be written or synced, the log stays as it was.
+    /// (2) and `Stopped` (3); if a page could not be written or synced, the log stays as it was.
     pub fn checkpoint(&mut self) -> Result<u64, Fault>
         ensures steps { Follows (held_of D.Device self.old) (held_of D.Device self.new) }
         ensures pages { SamePages D.Device self.old self.new }

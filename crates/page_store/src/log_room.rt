@@ -44,7 +44,7 @@ impl StoreRoom {
     ghost use Rattle.page_store.specs.Rooms.{limits_of_room, frames_of_room, pages_of_room, counts_of_room};
 
     /// The room for an index of these limits, of which `frames` pages are held at once, with no page in use.
-    /// Refused with `BadLimits`, and with `NoMemory` if the room cannot be had.
+    /// Refused with `BadLimits` (18), and with `NoMemory` (1) if the room cannot be had.
     pub fn new(alloc: Global, limits: Format, frames: u32) -> Result<StoreRoom, Fault>
         ensures limits { IfOk result (λ room. limits_of_room room ≡ limits) }
         ensures frames { IfOk result (λ room. frames_of_room room ≡ frames) }
@@ -75,8 +75,8 @@ impl StoreRoom {
     }
 
     /// Brings the next unused block into use, with this page. Refused, with nothing changed: with `IndexFull`
-    /// if no block is unused; with `PageDamaged` for that block if the page is not one of the format,
-    /// is not that block's, or has more items than the limits allow.
+    /// (8) if no block is unused; with `PageDamaged` (17) for that block if the page is not one of the
+    /// format, is not that block's, or has more items than the limits allow.
     pub fn add(&mut self, page: &Page) -> Result<(), Fault>
         ensures limits { limits_of_room self.new ≡ limits_of_room self.old }
         ensures frames { frames_of_room self.new ≡ frames_of_room self.old }

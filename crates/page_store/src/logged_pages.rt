@@ -163,7 +163,7 @@ impl<D: Device> LoggedPages<D> {
     }
 
     /// Changes these pages, each of which is in memory or has a frame there, at once, or none, and answers
-    /// the number of the act. Refused with `Stopped` and `LogFull`.
+    /// the number of the act. Refused with `Stopped` (3) and `LogFull` (9).
     pub fn act(&mut self, pages: &[Page]) -> Result<u64, Fault>
         requires some { 1 ≤ length pages.now }
         requires actable { AreActable self.old.limits (length (pages_now self.old.history)) pages.now }

@@ -40,7 +40,7 @@ impl Store<MemDevice> {
     }
 
     /// What a crash now leaves, as a device of its own: its bytes are synced, and no call of it is made to
-    /// fail. Without memory for it the call is refused with `NoMemory`.
+    /// fail. Without memory for it the call is refused with `NoMemory` (1).
     pub fn crash(&self, alloc: Global, image: CrashImage) -> Result<MemDevice, Fault>
         ensures bytes { IfOk result
             (λ d. trace_of d ≡ first (left_by image (device_of ⟦<MemDevice as Device>⟧ self.now))) }

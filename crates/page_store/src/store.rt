@@ -89,8 +89,8 @@ impl<D: Device> Store<D> {
 
     /// Does the next part of a force, except for its last sync: it writes what waits in the log, or it syncs
     /// that and opens its gate. A sync of the device between two parts makes the next one's fast, and that of
-    /// the force at their end. If an act comes between, what waits is written again. Refused with `Io` and
-    /// `Stopped`: the log is stopped then.
+    /// the force at their end. If an act comes between, what waits is written again. Refused with `Io` (2)
+    /// and `Stopped` (3): the log is stopped then.
     pub fn advance(&mut self) -> Result<Advance, Fault>
         ensures steps { Continues (follows_by D.Device) self.old self.new }
         ensures state { state_of D.Device self.new ≡ state_of D.Device self.old }

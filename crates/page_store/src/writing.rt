@@ -62,8 +62,8 @@ fn decode_stored(bytes: &[u8; 4096], limits: Format, block: u32, page: &mut Page
         && limits.admits(page.layout)
 }
 
-/// Reads the page of this block into the place of another. Refused with `Io`, and with `PageDamaged` if no
-/// page stands there that may be stored at this block; what `page` holds has no meaning then.
+/// Reads the page of this block into the place of another. Refused with `Io` (2), and with `PageDamaged` (17)
+/// if no page stands there that may be stored at this block; what `page` holds has no meaning then.
 pub(crate) fn read_page<D: Device>(
     device: &mut D,
     limits: Format,

@@ -31,7 +31,7 @@ fn write_images<D: Device>(device: &mut D, limits: Format, found: &Replayed) -> 
 }
 
 /// Writes the last image of each block to its place, and syncs them. At each moment only places of blocks
-/// that have an image change. Refused with `Io`.
+/// that have an image change. Refused with `Io` (2).
 pub(crate) fn bring_home<D: Device>(
     device: &mut D,
     limits: Format,

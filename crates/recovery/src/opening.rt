@@ -43,8 +43,8 @@ pub(crate) struct Parts {
 }
 
 /// The sizes of the index on the device. Refused, in this order: a number of frames out of 16 to 1,024
-/// (`BadLimits`); fewer than 4,096 bytes (`BadSuper`); a failed read (`Io`); what the superblock is refused
-/// with; a device shorter than it says (`BadSuper`).
+/// (`BadLimits`, 18); fewer than 4,096 bytes (`BadSuper`, 14); a failed read (`Io`, 2); what the superblock
+/// is refused with; a device shorter than it says (`BadSuper`).
 fn find_limits<D: Device>(device: &mut D, frames: u32) -> Result<Format, Fault>
     ensures front { IfOk result (λ limits. IsTrue (D.is_honest device.new)
         → IsFront limits (D.trace device.old).now.seen) }
@@ -75,8 +75,8 @@ fn find_limits<D: Device>(device: &mut D, frames: u32) -> Result<Format, Fault>
     Ok(limits)
 }
 
-/// Brings what the log holds to the places of its blocks, and closes the log. Refused with `NoMemory`, `Io`
-/// and `LogDamaged`.
+/// Brings what the log holds to the places of its blocks, and closes the log. Refused with `NoMemory` (1),
+/// `Io` (2) and `LogDamaged` (16).
 fn restore_log<D: Device>(alloc: Global, device: &mut D, limits: Format) -> Result<Log, Fault>
     requires allowed { AreLimits limits }
     requires inside { needed_length limits ≤ length (D.trace device.old).now.seen }
@@ -110,7 +110,7 @@ fn restore_log<D: Device>(alloc: Global, device: &mut D, limits: Format) -> Resu
 }
 
 /// Makes what a read gives stand through a crash, restores the log and reads the pages. Refused with
-/// `NoMemory`, `Io`, `LogDamaged` and `PageDamaged`.
+/// `NoMemory` (1), `Io` (2), `LogDamaged` (16) and `PageDamaged` (17).
 fn restore<D: Device>(
     alloc: Global,
     device: &mut D,

@@ -25,7 +25,7 @@ pub(crate) struct Found {
     pub(crate) last_cycle: u32,
 }
 
-/// The page of these bytes; none if they are zeros. Other bytes are refused with `PageDamaged` for this
+/// The page of these bytes; none if they are zeros. Other bytes are refused with `PageDamaged` (17) for this
 /// block.
 fn page_of(block: u32, bytes: &[u8; 4096]) -> Result<Option<Page>, Fault>
     ensures found { IfOk result (λ found. AreBytesOf found bytes.now) }
@@ -43,8 +43,8 @@ fn page_of(block: u32, bytes: &[u8; 4096]) -> Result<Option<Page>, Fault>
     }
 }
 
-/// Reads the page of the block; none if it is unused. Refused with `Io`, and with `PageDamaged` for this
-/// block.
+/// Reads the page of the block; none if it is unused. Refused with `Io` (2), and with `PageDamaged` (17) for
+/// this block.
 fn read_page<D: Device>(device: &mut D, limits: Format, block: u32) -> Result<Option<Page>, Fault>
     requires allowed { AreLimits limits }
     requires block { block < limits.pages }
@@ -66,8 +66,8 @@ fn read_page<D: Device>(device: &mut D, limits: Format, block: u32) -> Result<Op
     page_of(block, &bytes)
 }
 
-/// Adds the pages of the blocks in use, in order, and answers how many they are. Refused with `Io`, and with
-/// `PageDamaged` for the first block that is damaged.
+/// Adds the pages of the blocks in use, in order, and answers how many they are. Refused with `Io` (2), and
+/// with `PageDamaged` (17) for the first block that is damaged.
 fn add_pages<D: Device>(device: &mut D, limits: Format, found: &mut Found) -> Result<u32, Fault>
     requires allowed { AreLimits limits }
     requires inside { needed_length limits ≤ length (D.trace device.old).now.seen }
@@ -98,8 +98,8 @@ fn add_pages<D: Device>(device: &mut D, limits: Format, found: &mut Found) -> Re
 }
 
 /// Reads the pages of the blocks in use, up to the first unused one, each once; none stays in memory. Refused
-/// with `NoMemory`, `Io`, and with `PageDamaged` for the first block whose bytes are no page that may be
-/// stored there; also for block 0 if it is unused.
+/// with `NoMemory` (1), `Io` (2), and with `PageDamaged` (17) for the first block whose bytes are no page
+/// that may be stored there; also for block 0 if it is unused.
 pub(crate) fn read_pages<D: Device>(
     alloc: Global,
     device: &mut D,

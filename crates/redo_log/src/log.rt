@@ -98,9 +98,9 @@ impl Log {
     /// image of its block, if one waits. It answers the action's number, counted from 1 since
     /// the log was opened.
     ///
-    /// Refused, with nothing changed: on a stopped log, or if the greatest number was given
-    /// (`Stopped`); if the images of blocks that don't wait don't fit after those that wait
-    /// (`LogFull`), which is never so up to `room()` of them.
+    /// Refused, with nothing changed: on a stopped log, or if the greatest number was given (`Stopped`, 3);
+    /// if the images of blocks that don't wait don't fit after those that wait (`LogFull`, 9), which is never
+    /// so up to `room()` of them.
     pub fn append(&mut self, images: &[Page]) -> Result<u64, Fault>
         requires images { AreImages (limits_of self.old) images.now }
 
@@ -195,8 +195,8 @@ impl Log {
     /// Opens the log that lies on a device, and keeps of each block the bytes of its last image in the
     /// open groups. It reads the log's range once, and judges each image once.
     ///
-    /// Refused: if the device fails (`Io`), if memory is refused (`NoMemory`), and with
-    /// `LogDamaged` exactly if an open group is none.
+    /// Refused: if the device fails (`Io`, 2), if memory is refused (`NoMemory`, 1), and with `LogDamaged`
+    /// (16) exactly if an open group is none.
     pub fn replay<D: Device>(
         alloc: Global,
         device: &mut D,

@@ -61,8 +61,8 @@ pub fn lows_stay<S: PageStore>()
 {}
 
 /// Does nothing: its clause says how soon a call answers, if no page has an incomplete split and no action is
-/// logged meanwhile. The first entries of a scan are ready at the step whose number is the root's level and
-/// 2. An insert whose leaf has room is added at the step whose number is the root's level and 3.
+/// logged meanwhile. Let L be the root's level. The first entries of a scan are ready at its step L + 2, and
+/// an insert whose leaf has room is added at its step L + 3.
 pub fn calls_come_in_time<S: PageStore>()
     ensures { CallsComeInTime S.PageStore }
 {}
