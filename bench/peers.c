@@ -2,10 +2,10 @@
  *
  * usage: peers lmdb|sqlite FOLDER COUNT COMMIT_EVERY ascending|shuffled insert|all
  *
- * COUNT inserts of different entries with a durable commit behind every COMMIT_EVERY, then two scans in order, the
- * deletion of every other entry in one transaction, and a check if there is one. It prints a line for each part:
- * its name, how many entries it was for, and how many nanoseconds it took. An entry is a key of 16 bytes and a row of
- * six, the same as in bench/src/work.rt.txt. */
+ * COUNT inserts of different entries with a durable commit behind every COMMIT_EVERY, then three scans in order, the
+ * last behind a checkpoint if there is one, the deletion of every other entry in one transaction, and a check if there
+ * is one. It prints a line for each part: its name, how many entries it was for, and how many nanoseconds it took. An
+ * entry is a key of 16 bytes and a row of six, the same as in bench/src/work.rt.txt. */
 #include <lmdb.h>
 #include <sqlite3.h>
 #include <stdint.h>
@@ -121,6 +121,9 @@ static void lmdb(struct work w) {
         lmdb_scan(env, table, w.count);
         tell("scan-again", w.count, start);
         start = now();
+        lmdb_scan(env, table, w.count);
+        tell("scan-written", w.count, start);
+        start = now();
         lmdb_delete(env, table, w);
         tell("delete", w.count / 2, start);
     }
@@ -193,6 +196,10 @@ static void sqlite(struct work w) {
         start = now();
         sqlite_scan(db, w.count);
         tell("scan-again", w.count, start);
+        run(db, "pragma wal_checkpoint(truncate)");
+        start = now();
+        sqlite_scan(db, w.count);
+        tell("scan-written", w.count, start);
         start = now();
         sqlite_delete(db, w);
         tell("delete", w.count / 2, start);

@@ -97,6 +97,9 @@ static void run(nardsill *index, struct work w) {
     tell("scan", scan_all(index), start);
     start = now();
     tell("scan-again", scan_all(index), start);
+    need(nardsill_checkpoint(index, 0), "checkpoint");
+    start = now();
+    tell("scan-written", scan_all(index), start);
     start = now();
     delete_half(index, w.count);
     tell("delete", w.count / 2, start);
