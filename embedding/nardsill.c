@@ -300,30 +300,42 @@ static struct outcome make(int fd, struct nardsill_make_ask ask) {
     return outcome;
 }
 
+/* Opens a draft that is nobody else's, and locks it. */
+static struct outcome open_draft(const char *draft, int *fd) {
+    struct outcome outcome = let_whole_go(draft);
+    if (!outcome.status) outcome = open_file(draft, O_CREAT | O_NOFOLLOW, fd);
+    if (outcome.status) return outcome;
+    outcome = lock(*fd);
+    if (!outcome.status) outcome = is_draft(*fd, draft);
+    if (outcome.status) close_unlocked(*fd);
+    return outcome;
+}
+
 /* Makes an index in the draft's file, and gives it its own name once it is whole. */
 static struct outcome create_by(const char *draft, const char *path, struct nardsill_make_ask ask) {
     int fd;
-    struct outcome outcome = let_whole_go(draft);
-    if (!outcome.status) outcome = open_file(draft, O_CREAT | O_NOFOLLOW, &fd);
+    struct outcome outcome = open_draft(draft, &fd);
     if (outcome.status) return outcome;
-    outcome = lock(fd);
-    if (!outcome.status) outcome = is_draft(fd, draft);
-    if (!outcome.status) {
-        outcome = make(fd, ask);
-        if (!outcome.status) outcome = place_durably(draft, path);
-        unlink(draft);
-    }
+    outcome = make(fd, ask);
+    if (!outcome.status) outcome = place_durably(draft, path);
+    unlink(draft);
     close_unlocked(fd);
     return outcome;
 }
 
-static struct outcome create(const char *path, struct nardsill_make_ask ask) {
+/* Nothing has this name. */
+static struct outcome want_free(const char *path) {
     struct stat there;
     if (!lstat(path, &there)) errno = EEXIST;
-    if (errno != ENOENT) return system_failed();
+    return errno == ENOENT ? only(0) : system_failed();
+}
+
+static struct outcome create(const char *path, struct nardsill_make_ask ask) {
+    struct outcome outcome = want_free(path);
+    if (outcome.status) return outcome;
     char *draft = draft_of(path);
     if (!draft) return only(NARDSILL_NO_MEMORY);
-    struct outcome outcome = only(NARDSILL_NO_MEMORY);
+    outcome = only(NARDSILL_NO_MEMORY);
     if (hold_forks()) {
         outcome = create_by(draft, path, ask);
         let_forks();
@@ -332,13 +344,16 @@ static struct outcome create(const char *path, struct nardsill_make_ask ask) {
     return outcome;
 }
 
+static struct nardsill_make_ask ask_of(const nardsill_limits *limits) {
+    return (struct nardsill_make_ask){.items = limits->items, .pages = limits->pages, .log_bytes = limits->log_bytes, .unique = limits->unique};
+}
+
 int nardsill_create(const char *path, const nardsill_limits *limits) {
     static const nardsill_limits usual = NARDSILL_LIMITS;
     if (!limits) limits = &usual;
     if (!path || limits->size != sizeof *limits) return misused();
     struct kept kept = enter();
-    return leave_with(kept, create(path, (struct nardsill_make_ask){.items = limits->items, .pages = limits->pages,
-                                                                     .log_bytes = limits->log_bytes, .unique = limits->unique}));
+    return leave_with(kept, create(path, ask_of(limits)));
 }
 
 enum { BELLS = 5 };
@@ -1179,6 +1194,122 @@ int nardsill_info(nardsill *index, nardsill_details *out) {
     return leave_with(kept, only((int)facts.status));
 }
 
+/* A leaf that overflows is split in the middle, so entries that come in order leave leaves half full. A copy takes so many entries, and
+   of each 23 puts those at even places before all others, which fill the halves. It has so many pages in memory. */
+enum { GROUP = 23, TAKEN = 100 * GROUP, COPY_FRAMES = 256 };
+
+/* A copy that is made: from where, into what, and who is told how far it is. */
+struct copying {
+    nardsill_scan *scan;
+    nardsill *into;
+    nardsill_entry *room;
+    int (*progress)(void *, uint64_t);
+    void *context;
+    uint64_t copied;
+};
+
+/* Puts the taken entries at even places, or those at odd ones. Nobody else has the new index. */
+static struct outcome put_places(struct copying *copying, size_t count, size_t odd) {
+    struct outcome outcome = only(0);
+    for (size_t i = 0; i < count && !outcome.status; i++) {
+        const nardsill_entry *entry = copying->room + i;
+        if (i % GROUP % 2 == odd) outcome = told_by(insert_locked(copying->into, entry->key, entry->key_len, entry->row));
+    }
+    return outcome;
+}
+
+/* Takes entries, and puts them. NARDSILL_DONE behind the last. */
+static struct outcome copy_some(struct copying *copying) {
+    nardsill *from = copying->scan->index;
+    size_t count = 0;
+    take_lock(from);
+    struct outcome taken = read_locked(copying->scan, copying->room, TAKEN, &count);
+    tell_blocked(&from->turns);
+    pthread_mutex_unlock(&from->lock);
+    if (taken.status && taken.status != NARDSILL_DONE) return taken;
+    struct outcome outcome = put_places(copying, count, 0);
+    if (!outcome.status) outcome = put_places(copying, count, 1);
+    if (outcome.status) return outcome;
+    copying->copied += count;
+    int gives_up = copying->progress && copying->progress(copying->context, copying->copied);
+    /* It may have forked the process, and this is the child. */
+    if (copying->into->is_parents) return only(NARDSILL_FORKED);
+    return gives_up ? only(NARDSILL_GIVEN_UP) : taken;
+}
+
+/* Puts all entries of an index into another one, and makes them durable. */
+static struct outcome copy_all(nardsill *index, struct copying *copying) {
+    struct outcome outcome = begin(index, (struct nardsill_ask){.what = NARDSILL_BEGIN}, &copying->scan);
+    if (outcome.status) return outcome;
+    while (!outcome.status) outcome = copy_some(copying);
+    nardsill_scan_close(copying->scan);
+    return outcome.status == NARDSILL_DONE ? checkpoint(copying->into, 0) : outcome;
+}
+
+/* Makes the draft of a copy, and opens the index in it. */
+static struct outcome begin_copy(const char *draft, struct nardsill_make_ask ask, nardsill **into) {
+    int fd;
+    struct outcome outcome = open_draft(draft, &fd);
+    if (outcome.status) return outcome;
+    outcome = make(fd, ask);
+    if (!outcome.status) outcome = start(fd, COPY_FRAMES, into);
+    /* The handle has the same lock by its own descriptor. */
+    if (!outcome.status) close(fd);
+    else {
+        unlink(draft);
+        close_unlocked(fd);
+    }
+    return outcome;
+}
+
+/* The draft gets its own name once all is in it, and is gone if not. No fork comes while it is opened and placed. */
+static struct outcome copy_by(nardsill *index, const char *draft, const char *path, struct nardsill_make_ask ask, struct copying *copying) {
+    if (!hold_forks()) return only(NARDSILL_NO_MEMORY);
+    struct outcome outcome = begin_copy(draft, ask, &copying->into);
+    let_forks();
+    if (outcome.status) return outcome;
+    outcome = copy_all(index, copying);
+    /* The parent goes on with both. */
+    if (copying->into->is_parents) return outcome;
+    if (!outcome.status && hold_forks()) {
+        outcome = place_durably(draft, path);
+        let_forks();
+    }
+    unlink(draft);
+    free_index(copying->into);
+    return outcome;
+}
+
+static struct outcome copy(nardsill *index, const char *path, struct nardsill_make_ask ask, struct copying *copying) {
+    struct outcome outcome = want_free(path);
+    if (outcome.status) return outcome;
+    char *draft = draft_of(path);
+    copying->room = malloc(TAKEN * sizeof *copying->room);
+    outcome = draft && copying->room ? copy_by(index, draft, path, ask, copying) : only(NARDSILL_NO_MEMORY);
+    free(copying->room);
+    free(draft);
+    return outcome;
+}
+
+/* The sizes of an index. */
+static struct nardsill_make_ask sizes_of(nardsill *index) {
+    take_lock(index);
+    struct nardsill_facts facts = nardsill_proved_info(index->shell);
+    pthread_mutex_unlock(&index->lock);
+    return (struct nardsill_make_ask){.items = facts.items, .pages = facts.pages, .log_bytes = facts.log_bytes, .unique = facts.is_unique};
+}
+
+int nardsill_copy(nardsill *index, const char *path, const nardsill_limits *limits, int (*progress)(void *, uint64_t), void *context,
+                  uint64_t *copied) {
+    int status = !path || (limits && limits->size != sizeof *limits) ? NARDSILL_MISUSE : refusal_of(index);
+    if (status) return refused(status);
+    struct kept kept = enter();
+    struct copying copying = {.progress = progress, .context = context};
+    struct outcome outcome = copy(index, path, limits ? ask_of(limits) : sizes_of(index), &copying);
+    if (!outcome.status && copied) *copied = copying.copied;
+    return leave_with(kept, outcome);
+}
+
 static struct outcome judge(int fd, uint32_t frames, nardsill_report *out) {
     int file = fd;
     struct nardsill_shell *shell;
@@ -1218,9 +1349,9 @@ const char *nardsill_errname(int status) {
         "Ok", "NoMemory", "Io", "Stopped", "Blocked", "Exists", "KeyTooLong", "BadRow", "IndexFull", "LogFull", "NoFrame", "VacuumRunning",
         "NoSession", "SessionBusy", "BadSuper", "BadVersion", "LogDamaged", "PageDamaged", "BadLimits", "TooTall", "DeviceTooSmall",
         "KeyExists"};
-    static const char *const own[] = {"Done", "Misuse", "Locked", "NotFound", "Forked"};
+    static const char *const own[] = {"Done", "Misuse", "Locked", "NotFound", "Forked", "GivenUp"};
     if (status >= 0 && status <= 21) return names[status];
-    return status >= 100 && status <= 104 ? own[status - 100] : "Unknown";
+    return status >= 100 && status <= 105 ? own[status - 100] : "Unknown";
 }
 
 const char *nardsill_strerror(int status) {
@@ -1232,7 +1363,7 @@ const char *nardsill_strerror(int status) {
         "the file is no index", "the file's layout is unknown", "the log is damaged", "a page is damaged", "a limit is out of its range",
         "the tree is too tall", "the file is too short", "the key is there with another row"};
     static const char *const own[] = {"no entry is left", "a wrong argument", "another handle has the file", "no entry has the key",
-                                      "the handle is the parent process's"};
+                                      "the handle is the parent process's", "the copy was given up"};
     if (status >= 0 && status <= 21) return names[status];
-    return status >= 100 && status <= 104 ? own[status - 100] : "no such status";
+    return status >= 100 && status <= 105 ? own[status - 100] : "no such status";
 }

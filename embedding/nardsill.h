@@ -51,7 +51,8 @@ enum {
     NARDSILL_MISUSE = 101,         /* a null pointer, a `size` that isn't set, or a descriptor that can't be an index's */
     NARDSILL_LOCKED = 102,         /* another handle, in this process or another, has the file */
     NARDSILL_NOT_FOUND = 103,      /* no entry has the key */
-    NARDSILL_FORKED = 104          /* the handle is the parent's: a forked child opens the index for itself */
+    NARDSILL_FORKED = 104,         /* the handle is the parent's: a forked child opens the index for itself */
+    NARDSILL_GIVEN_UP = 105        /* who was told how far a copy is gave it up */
 };
 
 typedef struct nardsill nardsill;           /* an open index */
@@ -145,6 +146,15 @@ NARDSILL_LOOK int nardsill_set_patience(nardsill *index, uint32_t milliseconds);
    read go on, and the others wait. */
 NARDSILL_LOOK int nardsill_commit(nardsill *index, uint64_t *actions);
 NARDSILL_LOOK int nardsill_checkpoint(nardsill *index, uint64_t *actions);
+
+/* Makes an index in a new file, as nardsill_create does, with the entries of this one. Its leaves are nearly full: some 48 entries a page
+   of 50. Null limits are this index's own. The file is at the path only once all is in it and durable; `copied` is how many entries
+   these are. Other calls go on meanwhile: of what they insert or delete any part may be in the copy. Refused as nardsill_create and a
+   scan are; with NARDSILL_INDEX_FULL if they don't fit, and with NARDSILL_KEY_EXISTS if the new one is unique and two have one key.
+   `progress`, if it isn't null, is told how many are copied so far. It may make other calls, but close neither the index nor the process's
+   files. If it answers another number than 0, the copy is given up: NARDSILL_GIVEN_UP. */
+NARDSILL_LOOK int nardsill_copy(nardsill *index, const char *path, const nardsill_limits *limits, int (*progress)(void *context, uint64_t copied),
+                                void *context, uint64_t *copied);
 
 /* What the index is, now. */
 NARDSILL_LOOK int nardsill_info(nardsill *index, nardsill_details *out);

@@ -42,6 +42,9 @@ static void work(nardsill *index) {
     if (!ends_so(nardsill_scan_open_prefix(index, "k", 1, &scan), "scan_open_prefix")) nardsill_scan_close(scan);
     ends_so(nardsill_delete_rows(index, &row, 1, 0), "delete_rows");
     IS(0, nardsill_vacuum(index, 0));
+    int copied = ends_so(nardsill_copy(index, "refuse-copy.idx", 0, 0, 0, 0), "copy");
+    HOLDS(!access("refuse-copy.idx", F_OK) == !copied && access("refuse-copy.idx.nardsill-draft", F_OK));
+    unlink("refuse-copy.idx");
     IS(0, nardsill_commit(index, &actions));
 }
 

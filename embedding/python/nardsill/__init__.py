@@ -15,10 +15,9 @@ Threads may share an index and its scans. Calls of other threads may run beside 
 page and errno are of the very call that raised it. A forked child opens an index for itself: the parent's raise `Forked` there.
 """
 import errno
-import operator
 import os
 from ctypes import byref
-from typing import Any
+from typing import Any, Callable, Optional
 
 from . import _library
 from ._faults import (
@@ -32,6 +31,7 @@ from ._faults import (
     Exists,
     FileIsThere,
     Forked,
+    GivenUp,
     IndexFull,
     Io,
     KeyExists,
@@ -52,7 +52,7 @@ from ._faults import (
     VacuumRunning,
 )
 from ._held import Held
-from ._index import Index, Scan, frames_in_range, path_bytes
+from ._index import Index, Scan, frames_in_range, limits_in_range, path_bytes
 from ._library import version
 from ._values import AnyRow, Entry, Info, Key, Report, Row, Stats
 
@@ -66,11 +66,7 @@ def create(path: Any, items: int = 50, pages: int = 4096, log_bytes: int = 1 << 
     unique one no two entries have the same key. Raises `BadLimits`, `FileIsThere` and other `Io`, and `Locked` if another makes it.
     """
     name, given = path_bytes(path), os.fspath(path)
-    items, pages, log_bytes = operator.index(items), operator.index(pages), operator.index(log_bytes)
-    if not all(0 <= limit < 1 << 32 for limit in (items, pages, log_bytes)):
-        raise BadLimits(filename=given)
-    limits = _library.LimitsStruct(items=items, pages=pages, log_bytes=log_bytes, unique=bool(unique))
-    Held(given).ask(_library.create, name, byref(limits))
+    Held(given).ask(_library.create, name, byref(limits_in_range(given, items, pages, log_bytes, unique)))
 
 
 def open(path: Any, frames: int = 64, patience: float = 0.0) -> Index:
@@ -96,6 +92,20 @@ def open(path: Any, frames: int = 64, patience: float = 0.0) -> Index:
     return Index(path, frames, patience)
 
 
+def copy(
+    source: Any,
+    target: Any,
+    items: Optional[int] = None,
+    pages: Optional[int] = None,
+    log_bytes: Optional[int] = None,
+    unique: Optional[bool] = None,
+    progress: Optional[Callable[[int], object]] = None,
+) -> int:
+    """Copies the index in a file that nobody has open into a new file, as `Index.copy` does. Raises what `Index` and that raise."""
+    with Index(source) as index:
+        return index.copy(target, items, pages, log_bytes, unique, progress)
+
+
 def check(path: Any, frames: int = 64) -> Report:
     """Judges the index in a file that nobody has open. Raises what `Index` raises, if the file can't be judged."""
     name, given = path_bytes(path), os.fspath(path)
@@ -117,6 +127,7 @@ __all__ = [
     "Exists",
     "FileIsThere",
     "Forked",
+    "GivenUp",
     "Index",
     "IndexFull",
     "Info",
@@ -143,6 +154,7 @@ __all__ = [
     "TooTall",
     "VacuumRunning",
     "check",
+    "copy",
     "create",
     "open",
     "version",

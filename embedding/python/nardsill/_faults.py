@@ -228,6 +228,12 @@ class Forked(Error):
     number = 104
 
 
+class GivenUp(Error):
+    """A copy was given up by whoever was told how far it is. `Index.copy` raises what that one raised instead."""
+
+    number = 105
+
+
 FAULTS: List[Type[Error]] = [
     NoMemory,
     Io,
@@ -253,6 +259,7 @@ FAULTS: List[Type[Error]] = [
     Misuse,
     Locked,
     Forked,
+    GivenUp,
 ]
 _BY_NUMBER = {fault.number: fault for fault in FAULTS}
 _BY_ERRNO: Dict[int, Type[Io]] = {

@@ -17,7 +17,7 @@ from typing import Any, Callable, Deque, Dict, Iterable, List, Optional, Set, Tu
 from . import _library
 from ._faults import BadLimits, BadRow, Error, Exists, Forked
 from ._held import Caller, Held, this_caller, waiting
-from ._library import DONE, ENTRY_BYTES, KEY_MAX, MISUSE, NOT_FOUND, ROW_BYTES, DetailsStruct, RowStruct, StatsStruct
+from ._library import DONE, ENTRY_BYTES, KEY_MAX, MISUSE, NOT_FOUND, PROGRESS, ROW_BYTES, DetailsStruct, LimitsStruct, RowStruct, StatsStruct
 from ._values import AnyRow, Entry, Info, Key, Row, Stats
 
 _Default = TypeVar("_Default")
@@ -68,6 +68,14 @@ def _entries_bytes(entries: List[Tuple[Key, AnyRow]], path: Any) -> bytes:
     except (struct.error, TypeError, ValueError):
         pass
     return b"".join([_entry_bytes(entry, path) for entry in entries])
+
+
+def limits_in_range(path: Any, items: int, pages: int, log_bytes: int, unique: bool) -> LimitsStruct:
+    """The sizes of a new index. Those that no field has room for raise `BadLimits`; the library refuses the others."""
+    items, pages, log_bytes = operator.index(items), operator.index(pages), operator.index(log_bytes)
+    if not all(0 <= limit < 1 << 32 for limit in (items, pages, log_bytes)):
+        raise BadLimits(filename=path)
+    return LimitsStruct(items=items, pages=pages, log_bytes=log_bytes, unique=bool(unique))
 
 
 def frames_in_range(frames: int, path: Any) -> int:
@@ -288,6 +296,7 @@ class Index:
         self._is_closed, self._is_parents = False, False
         self._closers: Dict[str, Caller] = {}
         self._is_unique: Optional[bool] = None
+        self._copiers: List[int] = []
         _OPEN.add(self)
         self._patience = 0.0
         self._held.ask(_library.open, name, frames_in_range(frames, self.path), _byref(self._held.at))
@@ -445,6 +454,55 @@ class Index:
         told = {name: getattr(details, name) for name in Info._fields}
         return Info(**{**told, "unique": bool(details.unique), "stopped": bool(details.stopped)})
 
+    def copy(
+        self,
+        path: Any,
+        items: Optional[int] = None,
+        pages: Optional[int] = None,
+        log_bytes: Optional[int] = None,
+        unique: Optional[bool] = None,
+        progress: Optional[Callable[[int], object]] = None,
+    ) -> int:
+        """Makes an index in a new file with the entries of this one, and answers how many they are. Its leaves are nearly full.
+
+        Sizes that aren't given are this index's. The file is there only once all is in it and durable. Calls of other threads go on
+        meanwhile, and of what they insert or delete any part may be in it. `progress` is told how many entries are copied so far; if it
+        raises, the copy is given up, and that is raised. The index can't be closed in it.
+
+        Raises what `create` raises, `IndexFull` if the entries don't fit, and `KeyExists` if it is to be unique and two have one key: the
+        exception names the new file, of which nothing is left.
+        """
+        name, given, info = path_bytes(path), os.fspath(path), self.info()
+        limits = limits_in_range(
+            given,
+            info.items if items is None else items,
+            info.pages if pages is None else pages,
+            info.log_bytes if log_bytes is None else log_bytes,
+            info.unique if unique is None else unique,
+        )
+        raised: List[BaseException] = []
+
+        def tell(_: object, count: int) -> int:
+            try:
+                if progress:
+                    progress(count)
+            except BaseException as error:
+                raised.append(error)
+            return len(raised)
+
+        copied, me = _u64(), threading.get_ident()
+        self._copiers.append(me)
+        try:
+            self._ask(_library.copy, name, _byref(limits), PROGRESS(tell) if progress else PROGRESS(), None, _byref(copied))
+        except Error as fault:
+            if raised:
+                raise raised[0] from None
+            fault.filename = given
+            raise
+        finally:
+            self._copiers.remove(me)
+        return copied.value
+
     def _close_reading(self, reading: _Reading) -> None:
         """Closes a scan of the library now; or later, if another thread reads from it."""
         reading.withdraw()
@@ -475,8 +533,10 @@ class Index:
         """Makes a checkpoint and closes the file, also if the checkpoint is refused: then it raises `Io` or `Stopped`.
 
         It waits for calls of other threads. It may be called from a finalizer or a signal handler, and again. In a forked child it does
-        nothing to the file.
+        nothing to the file. Raises ValueError inside of a copy's `progress`.
         """
+        if threading.get_ident() in self._copiers:
+            raise ValueError("the index is copied by this thread")
         waiting(self._close)
 
     def _close(self) -> None:

@@ -86,7 +86,11 @@ ENTRY_BYTES = struct.Struct("=IHxxB64s3x")
 # A pointer is passed as the address that stands in a c_void_p, or as the bytes that lie there.
 _at, _u32, _len = ctypes.c_void_p, ctypes.c_uint32, ctypes.c_size_t
 
+# Is told how many entries are copied. Without a function it is null.
+PROGRESS = ctypes.CFUNCTYPE(ctypes.c_int, ctypes.c_void_p, ctypes.c_uint64)
+
 create = _call("create", _at, _at)
+copy = _call("copy", _at, _at, _at, PROGRESS, _at, _at)
 open = _call("open", _at, _u32, _at)
 close = _call("close", _at)
 insert = _call("insert", _at, _at, _len, RowStruct, _at)

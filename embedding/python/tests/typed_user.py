@@ -54,9 +54,11 @@ def main(path: str) -> None:
         actions: Tuple[int, int] = index.commit(), index.checkpoint()
         info: Info = index.info()
         is_closed: bool = index.closed
+        copied: int = index.copy(path + "-copy", pages=128, progress=lambda count: None)
+    again: int = nardsill.copy(path, path + "-again", unique=False)
     report: Report = nardsill.check(path)
     version: str = nardsill.version()
-    print(patience, number, many, row, other, found, is_there, keys, entry, rows, stats, left, actions, info, is_closed, report, version)
+    print(patience, copied, again, number, many, row, other, found, is_there, keys, entry, rows, stats, left, actions, info, is_closed, report, version)
 
 
 if __name__ == "__main__":
