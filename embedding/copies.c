@@ -177,6 +177,7 @@ static void sizes(void) {
     same_entries(index, copy);
     IS(0, nardsill_info(copy, &details));
     HOLDS(details.items == 40 && details.pages == 9000 && details.log_bytes == 1 << 17 && !details.unique);
+    HOLDS(details.pages_used * 40u <= 3000 * 112u / 100u);
     IS(NARDSILL_IO, nardsill_copy(index, COPY, 0, 0, 0, &copied));
     IS(EEXIST, nardsill_last_fault()->error);
     IS(3000, counted(copy));

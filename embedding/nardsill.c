@@ -1195,25 +1195,32 @@ int nardsill_info(nardsill *index, nardsill_details *out) {
 }
 
 /* A leaf that overflows is split in the middle, so entries that come in order leave leaves half full. A copy takes so many entries, and
-   of each 23 puts those at even places before all others, which fill the halves. It has so many pages in memory. */
-enum { GROUP = 23, TAKEN = 100 * GROUP, COPY_FRAMES = 256 };
+   puts some of them later than all others: just as many as fill the halves, evenly spread. It has so many pages in memory. */
+enum { TAKEN = 2300, COPY_FRAMES = 256 };
 
 /* A copy that is made: from where, into what, and who is told how far it is. */
 struct copying {
     nardsill_scan *scan;
     nardsill *into;
+    uint32_t items;
     nardsill_entry *room;
     int (*progress)(void *, uint64_t);
     void *context;
     uint64_t copied;
 };
 
-/* Puts the taken entries at even places, or those at odd ones. Nobody else has the new index. */
-static struct outcome put_places(struct copying *copying, size_t count, size_t odd) {
+/* Whether the entry at this place is put later. Of a page's items a split leaves half and one. */
+static int is_later(size_t i, size_t items) {
+    size_t later = items - items / 2 - 1;
+    return (i + 1) * later / items > i * later / items;
+}
+
+/* Puts the entries that were taken and are to be put later, or those that aren't. Nobody else has the new index. */
+static struct outcome put_some(struct copying *copying, size_t count, int later) {
     struct outcome outcome = only(0);
     for (size_t i = 0; i < count && !outcome.status; i++) {
         const nardsill_entry *entry = copying->room + i;
-        if (i % GROUP % 2 == odd) outcome = told_by(insert_locked(copying->into, entry->key, entry->key_len, entry->row));
+        if (is_later(i, copying->items) == later) outcome = told_by(insert_locked(copying->into, entry->key, entry->key_len, entry->row));
     }
     return outcome;
 }
@@ -1227,8 +1234,8 @@ static struct outcome copy_some(struct copying *copying) {
     tell_blocked(&from->turns);
     pthread_mutex_unlock(&from->lock);
     if (taken.status && taken.status != NARDSILL_DONE) return taken;
-    struct outcome outcome = put_places(copying, count, 0);
-    if (!outcome.status) outcome = put_places(copying, count, 1);
+    struct outcome outcome = put_some(copying, count, 0);
+    if (!outcome.status) outcome = put_some(copying, count, 1);
     if (outcome.status) return outcome;
     copying->copied += count;
     int gives_up = copying->progress && copying->progress(copying->context, copying->copied);
@@ -1284,6 +1291,7 @@ static struct outcome copy(nardsill *index, const char *path, struct nardsill_ma
     struct outcome outcome = want_free(path);
     if (outcome.status) return outcome;
     char *draft = draft_of(path);
+    copying->items = ask.items;
     copying->room = malloc(TAKEN * sizeof *copying->room);
     outcome = draft && copying->room ? copy_by(index, draft, path, ask, copying) : only(NARDSILL_NO_MEMORY);
     free(copying->room);
