@@ -493,7 +493,7 @@ class Index:
         copied, me = _u64(), threading.get_ident()
         self._copiers.append(me)
         try:
-            self._ask(_library.copy, name, _byref(limits), PROGRESS(tell) if progress else PROGRESS(), None, _byref(copied))
+            self._ask(_library.copy, name, _byref(limits), PROGRESS(tell) if progress else PROGRESS(0), None, _byref(copied))
         except Error as fault:
             if raised:
                 raise raised[0] from None
