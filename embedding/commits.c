@@ -380,36 +380,54 @@ static void beside_a_sync(unsigned held) {
     IS(0, nardsill_close(index));
 }
 
+/* An index with more pages than frames, to which entries are added, each after a lookup of it, up to this one, or to the first whose lookup
+   syncs: each page that is in memory has changed then, so that one of them has to be written. Answers which one it is. */
+static unsigned fill_until(nardsill *index, unsigned stop) {
+    nardsill_row row;
+    unsigned char key[16];
+    for (unsigned i = 0; i < 6000; i++) IS(0, insert_next(index, 9, i, 0));
+    IS(0, nardsill_commit(index, 0));
+    for (unsigned i = 6000; i < stop; i++) {
+        unsigned before = syncs;
+        key_of(i * MOST_THREADS + 9, key);
+        IS(NARDSILL_NOT_FOUND, nardsill_get(index, key, 16, &row));
+        if (syncs != before) return i;
+        IS(0, insert_next(index, 9, i, 0));
+    }
+    return stop;
+}
+
+static void *commits_once(void *at) {
+    struct committer *me = at;
+    errno = 77;
+    me->status = nardsill_commit(me->index, &me->told);
+    me->error = errno;
+    return 0;
+}
+
 /* A write came to nothing, and a commit's sync is told of it. Before the commit knows, one that reads must force: it is told too, by an
    open file of its own. No commit succeeds behind that. */
 static void told_apart(void) {
     nardsill *index = made(PATH, &limits);
-    struct committer one;
-    nardsill_scan *scan;
-    nardsill_entry few[100];
-    size_t n;
-    int status;
-    for (unsigned i = 0; i < 6000; i++) IS(0, insert_next(index, 9, i, 0));
-    IS(0, nardsill_commit(index, 0));
-    start(&one, 1, index);
+    struct committer one = {0};
+    nardsill_row row;
+    unsigned char key[16];
+    unsigned at = fill_until(index, MOST_ACTIONS);
+    HOLDS(at < MOST_ACTIONS);
+    IS(0, nardsill_close(index));
+    one.index = index = made(PATH, &limits);
+    IS(at, fill_until(index, at));
     is_told_held = is_lost = 1;
-    send(&one);
+    IS(0, pthread_create(&one.thread, 0, commits_once, &one));
     for (unsigned ticks = 0; is_lost < 2;) tick(&ticks);
-    /* It wants more pages than there are frames, so that the one that changed has to leave its frame. */
-    IS(0, nardsill_scan_open(index, 0, 0, 0, 0, &scan));
-    do status = nardsill_scan_read(scan, few, 100, &n);
-    while (!status);
-    nardsill_scan_close(scan);
-    IS(NARDSILL_IO, status);
+    key_of(at * MOST_THREADS + 9, key);
+    IS(NARDSILL_IO, nardsill_get(index, key, 16, &row));
     is_told_held = 0;
-    wait_for(&one.done);
-    IS(0, one.inserted);
+    pthread_join(one.thread, 0);
     IS(NARDSILL_IO, one.status);
     IS(EIO, one.error);
-    IS(NARDSILL_IO, nardsill_commit(index, 0));
-    IS(NARDSILL_IO, nardsill_checkpoint(index, 0));
-    stop(&one, 1);
-    IS(NARDSILL_IO, nardsill_close(index));
+    HOLDS(nardsill_commit(index, 0) && nardsill_checkpoint(index, 0));
+    HOLDS(nardsill_close(index));
     is_lost = 0;
     memset(is_told, 0, sizeof is_told);
 }

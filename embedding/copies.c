@@ -136,7 +136,7 @@ static void contents(void) {
     IS(0, nardsill_copy(index, COPY, 0, tell, &told, &copied));
     IS(ALL, copied);
     IS(ALL, told.last);
-    HOLDS(told.times >= ALL / 2300);
+    HOLDS(told.times >= ALL / 4900);
     IS(0, unsynced_then);
     HOLDS(access(DRAFT, F_OK));
     IS(0, nardsill_check(COPY, 0, &report));
@@ -177,7 +177,7 @@ static void sizes(void) {
     same_entries(index, copy);
     IS(0, nardsill_info(copy, &details));
     HOLDS(details.items == 40 && details.pages == 9000 && details.log_bytes == 1 << 17 && !details.unique);
-    HOLDS(details.pages_used * 40u <= 3000 * 112u / 100u);
+    HOLDS(details.pages_used * 40u <= 3000 * 115u / 100u);
     IS(NARDSILL_IO, nardsill_copy(index, COPY, 0, 0, 0, &copied));
     IS(EEXIST, nardsill_last_fault()->error);
     IS(3000, counted(copy));
@@ -318,8 +318,7 @@ static void forks_and_kills(void) {
     child = fork();
     if (!child) {
         IS(0, nardsill_open(PATH, 64, &index));
-        nardsill_copy(index, COPY, 0, kills, 0, &copied);
-        _exit(0);
+        _exit(nardsill_copy(index, COPY, 0, kills, 0, &copied));
     }
     waitpid(child, &status, 0);
     HOLDS(WIFSIGNALED(status) && access(COPY, F_OK) && !access(DRAFT, F_OK));

@@ -334,7 +334,7 @@ static void one_open_file(void) {
     IS(0, insert(index, "b", 1, 2));
     FAILS(EIO, nardsill_commit(index, &actions));
     no_sync = 0;
-    IS(NARDSILL_IO, nardsill_close(index));
+    IS(NARDSILL_STOPPED, nardsill_close(index));
     IS(0, nardsill_open(PATH, 16, &index));
     IS(NARDSILL_DONE, count(index, &entries));
     HOLDS(entries >= 1);

@@ -1196,7 +1196,7 @@ int nardsill_info(nardsill *index, nardsill_details *out) {
 
 /* A leaf that overflows is split in the middle, so entries that come in order leave leaves half full. A copy takes so many entries, and
    puts some of them later than all others: just as many as fill the halves, evenly spread. It has so many pages in memory. */
-enum { TAKEN = 2300, COPY_FRAMES = 256 };
+enum { TAKEN = 4900, COPY_FRAMES = 256 };
 
 /* A copy that is made: from where, into what, and who is told how far it is. */
 struct copying {
@@ -1209,19 +1209,24 @@ struct copying {
     uint64_t copied;
 };
 
-/* Whether the entry at this place is put later. Of a page's items a split leaves half and one. */
+/* Whether the entry at this place is put later. Of a page's items a split leaves half and one; and one place stays free, since an entry
+   between two pages may come to either. */
 static int is_later(size_t i, size_t items) {
-    size_t later = items - items / 2 - 1;
-    return (i + 1) * later / items > i * later / items;
+    size_t later = items - items / 2 - 2, all = items - 1;
+    return (i + 1) * later / all > i * later / all;
+}
+
+/* Puts an entry. One that was added, and whose split was left unfinished, is refused too: the copy would be refused at the next one. */
+static struct outcome put(nardsill *index, const nardsill_entry *entry) {
+    struct nardsill_answer answer = insert_locked(index, entry->key, entry->key_len, entry->row);
+    return answer.status ? told_by(answer) : told((uint32_t)answer.other, 0, (nardsill_row){0, 0});
 }
 
 /* Puts the entries that were taken and are to be put later, or those that aren't. Nobody else has the new index. */
 static struct outcome put_some(struct copying *copying, size_t count, int later) {
     struct outcome outcome = only(0);
-    for (size_t i = 0; i < count && !outcome.status; i++) {
-        const nardsill_entry *entry = copying->room + i;
-        if (is_later(i, copying->items) == later) outcome = told_by(insert_locked(copying->into, entry->key, entry->key_len, entry->row));
-    }
+    for (size_t i = 0; i < count && !outcome.status; i++)
+        if (is_later(i, copying->items) == later) outcome = put(copying->into, copying->room + i);
     return outcome;
 }
 
