@@ -89,7 +89,8 @@ class Copies(Room):
         def interrupts(count):
             signal.raise_signal(signal.SIGINT)
 
-        self.refused(KeyboardInterrupt, index.copy, self.target, progress=interrupts)
+        with self.assertRaises(KeyboardInterrupt):
+            index.copy(self.target, progress=interrupts)
         self.nothing_is_there()
 
     def test_beside_calls(self):
