@@ -27,7 +27,7 @@ pub use Rattle.shared_world.specs.Jobs.{room_of}
 pub use Rattle.shared_world.specs.Kept.{KeepsFitting}
 pub use Rattle.shared_world.specs.Notes.{job_of, jobs_of}
 pub use Rattle.shared_world.specs.Turns.{SeatMeans, SitsOn}
-pub use Rattle.shared_world.specs.declared.job.Job.{Job}
+pub use Rattle.session_seats.specs.declared.job.Job.{Job}
 pub use Rattle.sessions.specs.declared.outcome.Receipt.{Receipt}
 pub use Rattle.shared_world.specs.declared.record.Pending.{Pending}
 pub use Rattle.shared_world.specs.declared.record.Record.{Record}

@@ -11,7 +11,7 @@ use Rattle.session_calls.specs.declared.op.Op.{Op}
 use Rattle.worker_seats.specs.Queue.{times}
 use Rattle.world.specs.Worlds.{WorldFits, WorldKeeps, inside}
 use Rattle.world.specs.declared.world.World.{World}
-use Rattle.shared_world.specs.declared.job.Job.{Job}
+use Rattle.session_seats.specs.declared.job.Job.{Job}
 use Rattle.sessions.specs.declared.outcome.Finished.{Finished}
 use Rattle.sessions.specs.declared.outcome.Receipt.{Receipt}
 use Rattle.shared_world.specs.declared.record.Record.{Record}

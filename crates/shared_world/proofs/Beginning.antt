@@ -2,7 +2,7 @@
 use Rattle.std.proofs.Common.{◌≡◌, ◌⊎◌, Bool, true, false, ℕ, suc, ◌<◌, ◌≤◌, List, [], ◌∷◌, ◌++◌, length, Option, Some, None, slice_get, slice_set, vec_len, vec_capacity, refl, sym, ap, ◌∙◌, subst, inl, inr, arith}
 use Rattle.session_calls.specs.declared.request.Request.TheVariants.{Insert as ToInsert, Scan as ToScan, Bulk as ToBulk, Cleanup as ToCleanup}
 use Rattle.whole_calls.specs.Meanings.{IsSameHistory, HasBegun, NothingIsDone, BeginMeans, begun_of}
-use Rattle.shared_world.specs.declared.job.Job.TheVariants.{Insert, Scan, Bulk, Cleanup, Commit, Checkpoint}
+use Rattle.session_seats.specs.declared.job.Job.TheVariants.{Insert, Scan, Bulk, Cleanup, Commit, Checkpoint}
 use Rattle.shared_world.proofs.Imports.{HasCause, Entry, SetGhosts, Fault, Blocked, Ghosts, IsCaused, DeadSets, asked_by, has_call, one_vacuums, slot_has_call, Answer, Begun, Forced, Checkpointed}
 use Rattle.shared_world.proofs.Imports.{Refused, Op, Request, RefusedCallsFit, AnswersEvent, AnswersBeginning, EventAlways, UpkeepIsDone, Stays, kept_answer, causes_of_begun_at, EventDoes}
 use Rattle.shared_world.proofs.Imports.{EventEffect, KeepsHistory, Upkeep, Forces, Flushes, Checkpoints, Kind, BeginsCall, MaintainsStore, kind_of, StoreAndSlots, Moment, snapshot_of, ForEachHistory}

@@ -53,10 +53,11 @@ pub use Rattle.shared_world.specs.Jobs.{IsRoomOf, IsWithinRoom, ScanIsFull, begi
 pub use Rattle.shared_world.specs.Kept.{HasEndedBy, IsBlocked, IsCut, IsInTime, IsOurs, IsPending, IsSince, KeepsAll, KeepsFitting, Lists, ListsCall, ListsUpkeep, MatchesPending, RecordFollows}
 pub use Rattle.shared_world.specs.Kept.{RunsJob, ending_by, record_of}
 pub use Rattle.shared_world.specs.Notes.{job_of, jobs_of, note_of, notes_of}
-pub use Rattle.shared_world.specs.Transitions.{IsPath, LockMoment, OfRecord, OfSession, Owner, Transition, gift_of, gifts_of, is_owner, owned_by}
+pub use Rattle.shared_world.specs.Transitions.{IsPath, LockMoment, OfRecord, OfSession, Owner, Transition, gifts_of, is_owner, owned_by}
 pub use Rattle.shared_world.specs.Turns.{HasNotedAt, TurnMeans, is_begun}
-pub use Rattle.shared_world.specs.declared.job.Job.{Job}
-pub use Rattle.shared_world.specs.declared.job.Job.TheVariants.{Scan}
+pub use Rattle.session_seats.specs.Calls.{gift_of}
+pub use Rattle.session_seats.specs.declared.job.Job.{Job}
+pub use Rattle.session_seats.specs.declared.job.Job.TheVariants.{Scan}
 pub use Rattle.shared_world.specs.declared.jobs.Jobs.{Ghosts as JobGhosts}
 pub use Rattle.shared_world.specs.declared.jobs.JobsOn.{Ghosts as StoreJobGhosts}
 pub use Rattle.shared_world.specs.declared.record.Pending.{Pending}

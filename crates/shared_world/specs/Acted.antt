@@ -16,7 +16,7 @@ use Rattle.schedule.specs.declared.event.Event.{Event}
 use Rattle.schedule.specs.declared.event.Event.TheVariants.{Step, Next, End, Checkpoint}
 use Rattle.whole_calls.specs.Made.{HasItsRoom}
 use Rattle.whole_calls.specs.OneStep.{cut_short}
-use Rattle.shared_world.specs.declared.job.Job.{Job}
+use Rattle.session_seats.specs.declared.job.Job.{Job}
 use Rattle.shared_world.specs.declared.record.Record.{Record}
 use Rattle.shared_world.specs.declared.record.Pending.{Pending}
 use Rattle.shared_world.specs.Handed.{Handed, IsAsHanded}

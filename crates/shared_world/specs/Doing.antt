@@ -12,8 +12,8 @@ use Rattle.schedule.specs.TheoremKinds.{kind_of}
 use Rattle.schedule.specs.TheoremMoments.{StoreAndSlots}
 use Rattle.schedule.specs.TheoremRuns.{ForEachHistory, EventFollows}
 use Rattle.schedule.specs.declared.event.Event.{Event}
-use Rattle.shared_world.specs.declared.job.Job.{Job}
-use Rattle.shared_world.specs.declared.job.Job.TheVariants.{Scan}
+use Rattle.session_seats.specs.declared.job.Job.{Job}
+use Rattle.session_seats.specs.declared.job.Job.TheVariants.{Scan}
 use Rattle.shared_world.specs.declared.record.Pending.{Pending}
 
 -- the event is done, with this answer

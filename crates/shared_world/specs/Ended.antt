@@ -10,7 +10,7 @@ use Rattle.session_calls.specs.declared.op.Op.{Op}
 use Rattle.worker_seats.specs.Queue.{below, weigh}
 use Rattle.world.specs.Worlds.{inside}
 use Rattle.world.specs.declared.world.World.{World}
-use Rattle.shared_world.specs.declared.job.Job.{Job}
+use Rattle.session_seats.specs.declared.job.Job.{Job}
 use Rattle.shared_world.specs.declared.record.Record.{Record}
 use Rattle.shared_world.specs.Acted.{HasActed}
 use Rattle.shared_world.specs.Handed.{Handed, ComesOf, StillFollows}

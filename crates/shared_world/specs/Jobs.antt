@@ -6,8 +6,8 @@ use Rattle.session_calls.specs.declared.request.Request.TheVariants.{Insert as T
 use Rattle.schedule.specs.TheoremKinds.{Upkeep, Forces, Checkpoints, Kind, kind_of}
 use Rattle.schedule.specs.declared.event.Event.{Event}
 use Rattle.schedule.specs.declared.event.Event.TheVariants.{Insert as BeginInsert, Scan as BeginScan, Bulk as BeginBulk, Cleanup as BeginCleanup, Force, Checkpoint as MakeCheckpoint}
-use Rattle.shared_world.specs.declared.job.Job.{Job}
-use Rattle.shared_world.specs.declared.job.Job.TheVariants.{Insert, Scan, Bulk, Cleanup, Commit, Checkpoint}
+use Rattle.session_seats.specs.declared.job.Job.{Job}
+use Rattle.session_seats.specs.declared.job.Job.TheVariants.{Insert, Scan, Bulk, Cleanup, Commit, Checkpoint}
 
 -- what it asks of a call, if it asks for one
 abbrev pub request_of : Job → Option Request

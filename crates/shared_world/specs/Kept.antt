@@ -19,8 +19,8 @@ use Rattle.schedule.specs.TheoremKinds.{Upkeep}
 use Rattle.schedule.specs.TheoremMoments.{StoreAndSlots, IsRunningCall, snapshot_of}
 use Rattle.schedule.specs.TheoremRuns.{Fits}
 use Rattle.whole_calls.specs.OneStep.{cut_short}
-use Rattle.shared_world.specs.declared.job.Job.{Job}
-use Rattle.shared_world.specs.declared.job.Job.TheVariants.{Scan}
+use Rattle.session_seats.specs.declared.job.Job.{Job}
+use Rattle.session_seats.specs.declared.job.Job.TheVariants.{Scan}
 use Rattle.shared_world.specs.declared.record.Record.{Record}
 use Rattle.shared_world.specs.declared.record.Pending.{Pending}
 use Rattle.schedule.specs.Ready.{MayComeNext}

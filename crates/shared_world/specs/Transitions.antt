@@ -1,13 +1,13 @@
 -- What is done under the lock, event by event: transitions, each beginning where the one before ended.
-use Rattle.std.specs.Prelude.{◌≡◌, ◌==◌, ℕ, Bool, false, if◌then◌else◌, Some, List, [], ◌∷◌, ◌++◌}
+use Rattle.std.specs.Prelude.{◌≡◌, ◌==◌, ℕ, Bool, false, if◌then◌else◌, List, [], ◌∷◌, ◌++◌}
 use Rattle.index_model.specs.declared.entry.Entry.{Entry}
 use Rattle.page_action.specs.declared.page_store.PageStore.{Ghosts}
 use Rattle.session_calls.specs.declared.answer.Answer.{Answer}
-use Rattle.session_calls.specs.declared.answer.Answer.TheVariants.{Gave}
 use Rattle.schedule.specs.Making.{EventEffect}
 use Rattle.schedule.specs.TheoremKinds.{kind_of}
 use Rattle.schedule.specs.TheoremMoments.{StoreAndSlots}
 use Rattle.schedule.specs.declared.event.Event.{Event}
+use Rattle.session_seats.specs.Calls.{gift_of}
 
 -- a moment under the lock: the store with its sessions, and how many records there are
 pub record LockMoment (S : Type 0) : Type 0 where
@@ -42,11 +42,6 @@ abbrev pub owned_by : {S : Type 0} → Owner → List Owner → List (Transition
 owned_by owner [] ts = []
 owned_by owner (of ∷ owners) [] = []
 owned_by owner (of ∷ owners) (t ∷ ts) = if is_owner owner of then t ∷ owned_by owner owners ts else owned_by owner owners ts
-
--- the entry that an answer gives, if it gives one
-abbrev pub gift_of : Answer → List Entry
-gift_of (Gave (Some e)) = e ∷ []
-gift_of answer = []
 
 -- the entries that these give, in order
 abbrev pub gifts_of : {S : Type 0} → List (Transition S) → List Entry

@@ -10,7 +10,7 @@ pub trait Jobs: Run {
     ghost use Rattle.index_model.specs.Calls.{Call};
     ghost use Rattle.index_model.specs.declared.entry.Entry.{Entry};
     ghost use Rattle.shared_world.specs.Handed.{Handed};
-    ghost use Rattle.shared_world.specs.declared.job.Job.{Job};
+    ghost use Rattle.session_seats.specs.declared.job.Job.{Job};
 
     /// The jobs, by their numbers.
     ghost jobs: { List Job };

@@ -2,14 +2,13 @@
 //! job.
 #![tactic(auto)]
 
-mod job;
 mod jobs;
 mod opening;
 mod record;
 mod shared;
 
-pub use job::Job;
 pub use jobs::{Jobs, JobsOn};
 pub use opening::{ended, first};
 pub use record::{Pending, Record};
+pub use session_seats::Job;
 pub use shared::{Shared, Turn};

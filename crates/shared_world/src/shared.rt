@@ -15,13 +15,13 @@ ghost use Rattle.shared_world.specs.Kept.{KeepsAll, MatchesPending, record_of};
 ghost use Rattle.shared_world.specs.Notes.{notes_of, jobs_of};
 ghost use Rattle.shared_world.specs.Turns.{JobBeginMeans, SeatMeans, SitsOn, TakeMeans, TurnMeans, is_begun};
 
-use crate::job::Job;
 use crate::jobs::{Jobs, JobsOn};
 use crate::record::{Pending, Record};
 use index_model::{DeadRows, Entry};
 use page_action::PageStore;
 use schedule::{Event, one_call_runs, ready_entries_may_come_next, refused_calls_fit};
 use session_calls::Answer;
+use session_seats::Job;
 use std::sync::ledger::Book;
 use worker_seats::{Desk, Seat, check, end, start};
 use world::World;
