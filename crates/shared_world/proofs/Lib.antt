@@ -11,4 +11,3 @@ pub mod Owning
 pub mod Acting
 pub mod Transiting
 pub mod Beginning
-pub mod Ending

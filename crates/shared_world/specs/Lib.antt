@@ -1,10 +1,8 @@
 pub mod Acted
 pub mod Doing
-pub mod Ended
 pub mod Handed
 pub mod Jobs
 pub mod Kept
-pub mod Notes
+pub mod Leaving
 pub mod Standing
 pub mod Transitions
-pub mod Turns

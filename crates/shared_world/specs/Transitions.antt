@@ -9,7 +9,7 @@ use Rattle.schedule.specs.TheoremMoments.{StoreAndSlots}
 use Rattle.schedule.specs.declared.event.Event.{Event}
 use Rattle.session_seats.specs.Calls.{gift_of}
 
--- a moment under the lock: the store with its sessions, and how many records there are
+-- a moment under the lock: the store with its sessions, and how many calls are over
 pub record LockMoment (S : Type 0) : Type 0 where
   pub here : StoreAndSlots S
   pub recorded : ℕ
@@ -27,7 +27,7 @@ abbrev pub IsPath : {S : Type 0} → Ghosts S → LockMoment S → List (Transit
 IsPath g first [] last = last ≡ first
 IsPath g first (t ∷ ts) last = (t.before ≡ first) × EventEffect g (kind_of t.event) t.answer t.before.here t.behind.here × IsPath g t.behind ts last
 
--- whose a transition is: that of the record at this place, or of the job that this session runs now
+-- whose a transition is: that of the call at this place of the log, or of the one that this session runs now
 pub data Owner : Type 0 where
   OfRecord : ℕ → Owner
   OfSession : ℕ → Owner

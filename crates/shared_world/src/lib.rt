@@ -2,13 +2,9 @@
 //! job.
 #![tactic(auto)]
 
-mod jobs;
-mod opening;
-mod record;
-mod shared;
+mod live;
+mod origin;
 
-pub use jobs::{Jobs, JobsOn};
-pub use opening::{ended, first};
-pub use record::{Pending, Record};
+pub use live::{Live, SessionTurn};
+pub use origin::{Origin, OriginOn};
 pub use session_seats::Job;
-pub use shared::{Shared, Turn};
