@@ -6,7 +6,7 @@ use Rattle.schedule.specs.Ready.{MayComeNext, ReadyMayComeNext}
 use Rattle.shared_world.proofs.Imports.{append-nil, Action, ThereAtSomeMoment, AskScan, Call, at_some_moment_later, Entry, SetGhosts, Ghosts, is_last, AnswersEnd, GivesLess, RunsUntilLast, is_busy, ready_count}
 use Rattle.shared_world.proofs.Imports.{has_call, slot_of, DeadSets, asked_by, Request, Answer, Gave, Ended, Op, OneCallRuns, Takes, GivesUp, StoreAndSlots, snapshot_of, Next, End, goes_does}
 use Rattle.shared_world.proofs.Imports.{get_within, inside, World, OriginGhosts, OriginOnGhosts, GroupGhosts, Live, Job, Scan, PendingCall, IsEventDone, MayBeLeft, given_after, given_more, gift_of, IsBelowRoom, IsWithinRoom, HasRoomLeft, request_of}
-use Rattle.shared_world.proofs.Imports.{IsLeft, completed_of}
+use Rattle.shared_world.proofs.Imports.{WasLeft, completed_of}
 use Rattle.shared_world.proofs.Happening.{keeps_going, keeps_ended}
 use Rattle.shared_world.proofs.Handing.{IsNext}
 use Rattle.shared_world.proofs.Noting.{some_same, busy_is, last_of, OthersRunOn, others_run_on, matches_runs, matches_ends}
@@ -37,7 +37,7 @@ ended_of (Some op) answer busy h = h
 left_is : (start : Entry → Bool) (l more : List Action) (sets : DeadSets) (job : Job) (request : Request) (call : Call) (s : ℕ) (p : PendingCall)
     (answer : Answer) (to ready : ℕ) → request_of job ≡ Some request → call.ask ≡ asked_by sets request
     → call.began ≡ p.from → call.given ≡ p.given → MayBeLeft job p.given ready → length l ≤ to
-    → ((range : Range) → call.ask ≡ AskScan range → 0 < ready → MayComeNext start l range call.began (length l) call.given) → IsLeft start (l ++ more) job (completed_of s p answer to)
+    → ((range : Range) → call.ask ≡ AskScan range → 0 < ready → MayComeNext start l range call.began (length l) call.given) → WasLeft start (l ++ more) job (completed_of s p answer to)
 left_is start l more sets (Scan range room) request call s p answer to ready asks ask began given (inl below) le next = inl below
 left_is start l more sets (Scan range room) request call s p answer to ready asks ask began given (inr some) le next =
     let m = next range (ask ∙ ap (asked_by sets) (sym (some_same asks))) some in
@@ -121,7 +121,7 @@ module _ {S T J : Type 0} {g : Ghosts S} {rows : SetGhosts T} {past : OriginOnGh
       let long : length k.history ≤ to = (let x = ap (λ (l : List Action). length l) e.to.history_is in let z = length-append k.history e.to.more in omega (arith, until, x, z)) in
       keeps_ended g contents acts calls (j.kept_then contents acts calls) w v next.sets self.start (pending_in self) (log_in self) k next.later.durable s p one here.found answer to new e
       refl r.fits (λ h. (r.goes.crash h).keeps) until
-      (λ _. subst (λ (l : List Action). IsLeft contents l p.asked (completed_of s p answer to)) (sym e.to.history_is)
+      (λ _. subst (λ (l : List Action). WasLeft contents l p.asked (completed_of s p answer to)) (sym e.to.history_is)
       (left_is contents k.history e.to.more w.sets p.asked y.request y.call s p answer to ready y.asks y.ask_is y.began_is y.given_is may long
       (λ range asks some. law contents was s y.number y.call range k.fit y.is asks some)))
 

@@ -1,7 +1,7 @@
 -- What each event under the lock leaves of what is kept: an event of one session touches one call at most.
 use Rattle.std.proofs.Common.{◌≡◌, ◌≢◌, ◌⊎◌, Bool, ℕ, zero, suc, ◌<◌, ◌≤◌, List, [], ◌∷◌, ◌++◌, length, Option, Some, None, slice_get, slice_set, refl, sym, ap, ◌∙◌, subst, inl, inr, ⊎_elim, arith, length-append, length-set, append_assoc}
 use Rattle.shared_world.proofs.Imports.{append-nil, Action, Call, Running, Entry, at_some_moment_later, Ghosts, OneCallRuns, KeepsHistory, StoreAndSlots, snapshot_of, Fits, nat_cases, get_front}
-use Rattle.shared_world.proofs.Imports.{get_snoc, get_within, get_there, set_else, set_cases, Job, Scan, CompletedCall, PendingCall, IsLeft, ListsCall, ListsUpkeep, Lists, RunsCall, IsPending, IsOurs}
+use Rattle.shared_world.proofs.Imports.{get_snoc, get_within, get_there, set_else, set_cases, Job, Scan, CompletedCall, PendingCall, WasLeft, ListsCall, ListsUpkeep, Lists, RunsCall, IsPending, IsOurs}
 use Rattle.shared_world.proofs.Imports.{CallFollows, IsSince, IsInTime, KeepsFitting}
 use Rattle.shared_world.proofs.Noting.{some_same}
 
@@ -14,7 +14,7 @@ get_append (x ∷ xs) ys zero a h = inl h
 get_append (x ∷ xs) ys (suc n) a h = get_append xs ys n a h
 
 -- a scan that was left rightly was so by a longer history too
-left_later : (start : Entry → Bool) (l m : List Action) (job : Job) (r : CompletedCall) → r.to ≤ length l → IsLeft start l job r → IsLeft start (l ++ m) job r
+left_later : (start : Entry → Bool) (l m : List Action) (job : Job) (r : CompletedCall) → r.to ≤ length l → WasLeft start l job r → WasLeft start (l ++ m) job r
 left_later start l m (Scan range room) r le (inl h) = inl h
 left_later start l m (Scan range room) r le (inr h) =
     inr (record { entry = h.entry; matched = h.matched; was_there = at_some_moment_later start l m r.from r.to r.to h.entry le (omega arith) h.was_there; beyond = h.beyond })

@@ -65,9 +65,9 @@ pub record IsCallOf (ask : Ask) (r : CompletedCall) (call : Call) : Type 0 where
 
 -- A scan was left by its session rightly. If its room was full, there was one match more, beyond all that it
 -- gave, at some moment of its interval.
-abbrev pub IsLeft : (Entry → Bool) → List Action → Job → CompletedCall → Type 0
-IsLeft start history (Scan range room) r = (length r.given < room) ⊎ MayComeNext start history range r.from r.to r.given
-IsLeft start history job r = ⊥
+abbrev pub WasLeft : (Entry → Bool) → List Action → Job → CompletedCall → Type 0
+WasLeft start history (Scan range room) r = (length r.given < room) ⊎ MayComeNext start history range r.from r.to r.given
+WasLeft start history job r = ⊥
 
 -- The log lists a call at a place, which was asked what the log says. A scan gave no more than its room holds.
 -- Its session left it rightly.
@@ -80,7 +80,7 @@ pub record ListsCall (start : Entry → Bool) (history : List Action) (sets : De
   pub found : slice_get calls number ≡ Some call
   pub is : IsCallOf (asked_by sets request) r call
   pub most : IsWithinRoom r.asked r.given
-  pub left : r.answer ≡ Ended → IsLeft start history r.asked r
+  pub left : r.answer ≡ Ended → WasLeft start history r.asked r
 
 -- it stands beside the calls: a commit or a checkpoint, which gives nothing, takes no action's time, answers
 -- what its kind may, and tells a number of actions only if so many were there and are durable

@@ -19,12 +19,12 @@ abbrev pub call_in : SessionView → PendingCall
 call_in v = unwrap_or v.call empty_call
 
 -- a session runs a call
-abbrev pub RunsOne : SessionView → Type 0
-RunsOne v = v.call ≡ Some (call_in v)
+abbrev pub RunsItsCall : SessionView → Type 0
+RunsItsCall v = v.call ≡ Some (call_in v)
 
 -- the call that begins now, after so many actions and so many calls that are over
-abbrev pub call_of : Job → ℕ → ℕ → PendingCall
-call_of asked from seen = record { asked = asked; given = []; from = from; seen = seen }
+abbrev pub call_begun : Job → ℕ → ℕ → PendingCall
+call_begun asked from seen = record { asked = asked; given = []; from = from; seen = seen }
 
 -- a call may give one entry more
 abbrev pub HasRoomLeft : PendingCall → Type 0

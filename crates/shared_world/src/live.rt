@@ -16,7 +16,7 @@ ghost use Rattle.shared_world.specs.Jobs.{event_of};
 ghost use Rattle.shared_world.specs.Kept.{KeepsAll, MatchesPending};
 ghost use Rattle.shared_world.specs.Standing.{AreIdle, Stands};
 ghost use Rattle.session_seats.specs.declared.call.PendingCall.{PendingCall as RunningCall};
-ghost use Rattle.shared_world.specs.Leaving.{HasRoomLeft, LeavesCall, RunsOne, call_in, call_of, is_begun};
+ghost use Rattle.shared_world.specs.Leaving.{HasRoomLeft, LeavesCall, RunsItsCall, call_in, call_begun, is_begun};
 
 use crate::origin::OriginOn;
 use index_model::DeadRows;
@@ -112,7 +112,7 @@ impl<S: PageStore, T: DeadRows + Drop, J: OriginOn<S>> Live<S, T, J> {
             (inside T.DeadRows self.old.world) (inside T.DeadRows self.new.world) }
         ensures over { result.over ≡ not (is_begun result.answer) }
         ensures told { LeavesCall seat.session result.over
-            (call_of asked (S.state self.old.world.store).acts (length (view_of self.old.desk.keeper).log))
+            (call_begun asked (S.state self.old.world.store).acts (length (view_of self.old.desk.keeper).log))
             result.answer (S.state self.old.world.store).acts
             (view_of self.old.desk.keeper) (view_of self.new.desk.keeper)
             (view_of seat.pass) (view_of result.seat.pass) }
@@ -153,7 +153,7 @@ impl<S: PageStore, T: DeadRows + Drop, J: OriginOn<S>> Live<S, T, J> {
     /// A step of the session's call, with the checkpoint before it for which the log has too little room. If
     /// its answer is the last, the call is over. If it is blocked, it goes on.
     pub fn step(&mut self, seat: SessionSeat<J>) -> SessionTurn<J>
-        requires runs { RunsOne (view_of seat.pass) }
+        requires runs { RunsItsCall (view_of seat.pass) }
         ensures session { result.seat.session ≡ seat.session }
         ensures start { self.new.start ≡ self.old.start }
         ensures goes { CallIsRun S.PageStore seat.session
@@ -204,7 +204,7 @@ impl<S: PageStore, T: DeadRows + Drop, J: OriginOn<S>> Live<S, T, J> {
 
     /// Asks the session's call for its next entry.
     pub fn next(&mut self, seat: SessionSeat<J>) -> (SessionSeat<J>, Answer)
-        requires runs { RunsOne (view_of seat.pass) }
+        requires runs { RunsItsCall (view_of seat.pass) }
         requires room { HasRoomLeft (call_in (view_of seat.pass)) }
         ensures session { result.0.session ≡ seat.session }
         ensures start { self.new.start ≡ self.old.start }
@@ -236,7 +236,7 @@ impl<S: PageStore, T: DeadRows + Drop, J: OriginOn<S>> Live<S, T, J> {
     /// Gives the session's scan up, before its end: it is over, with what it gave. If its room is full, it
     /// must have an entry more ready (else a step tells whether it has).
     pub fn end(&mut self, seat: SessionSeat<J>) -> SessionSeat<J>
-        requires runs { RunsOne (view_of seat.pass) }
+        requires runs { RunsItsCall (view_of seat.pass) }
         requires may { MayBeLeft (call_in (view_of seat.pass)).asked (call_in (view_of seat.pass)).given
             (ready_count (slot_of self.old.world.calls.slots.items seat.session)) }
         ensures session { result.session ≡ seat.session }

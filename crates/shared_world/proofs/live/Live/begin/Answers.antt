@@ -1,5 +1,5 @@
 use Rattle.std.proofs.Common.{ℕ, Some, true, false, length, refl, sym, ap, ◌∙◌, subst}
-use Rattle.shared_world.specs.Leaving.{LeavesCall, call_of}
+use Rattle.shared_world.specs.Leaving.{LeavesCall, call_begun}
 use Rattle.session_seats.specs.Calls.{begun_by}
 use Rattle.session_seats.specs.Seats.{view_of}
 use Rattle.session_seats.specs.declared.call.Notice.{Notice}
@@ -41,7 +41,7 @@ returns-then-is_begun-clause-told g c =
     let self = c.args.self.now in
     let look = c.check-seat.ensures in
     let notice : Notice = record { asked = c.args.asked; answer = c.one-answer.result; at = c.actions-from.result } in
-    subst (λ (from : ℕ). LeavesCall c.args.seat.session false (call_of c.args.asked from (length (log_in self))) c.one-answer.result from (view_of self.desk.keeper) _ (view_of c.args.seat.pass) _) c.actions-from.ensures
+    subst (λ (from : ℕ). LeavesCall c.args.seat.session false (call_begun c.args.asked from (length (log_in self))) c.one-answer.result from (view_of self.desk.keeper) _ (view_of c.args.seat.pass) _) c.actions-from.ensures
     (begun_leaves_call (view_of self.desk.keeper) _ (view_of c.args.seat.pass) _ c.args.seat.session _ look.keeper look.view look.session notice c.begin-seat.ensures.keeper c.begin-seat.ensures.call c.begin-seat.ensures.calls
     c.one-answer.result c.actions-from.result)
 
@@ -50,7 +50,7 @@ returns-clause-told g c =
     let self = c.args.self.now in
     let look = c.check-seat.ensures in
     let notice : Notice = record { asked = c.args.asked; answer = c.one-answer.result; at = c.actions-from.result } in
-    subst (λ (from : ℕ). LeavesCall c.args.seat.session true (call_of c.args.asked from (length (log_in self))) c.one-answer.result from (view_of self.desk.keeper) _ (view_of c.args.seat.pass) _) c.actions-from.ensures
+    subst (λ (from : ℕ). LeavesCall c.args.seat.session true (call_begun c.args.asked from (length (log_in self))) c.one-answer.result from (view_of self.desk.keeper) _ (view_of c.args.seat.pass) _) c.actions-from.ensures
     (done_leaves_call (view_of self.desk.keeper) _ (view_of c.args.seat.pass) _ c.args.seat.session _ look.keeper look.view look.session notice c.begin-seat.ensures.keeper c.begin-seat.ensures.call c.begin-seat.ensures.calls
     c.begin-seat.ensures.session c.end-seat.ensures.keeper c.end-seat.ensures.call c.end-seat.ensures.calls)
 
