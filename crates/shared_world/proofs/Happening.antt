@@ -1,8 +1,8 @@
 -- What each event under the lock leaves of what is kept, by what it tells of its call.
 use Rattle.std.proofs.Common.{◌≡◌, Bool, ℕ, ◌≤◌, List, [], ◌∷◌, ◌++◌, length, Option, Some, None, slice_get, slice_set, vec_capacity, refl, sym, ap, ◌∙◌, subst, inl, inr, arith, length-append}
 use Rattle.shared_world.proofs.Imports.{Action, Call, Entry, Fault, Ghosts, asked_by, begun_call, Answer, Ended, Refused, Request, OneCallRuns, refused_call, AnswersUpkeep, kept_answer, KeepsHistory}
-use Rattle.shared_world.proofs.Imports.{Upkeep, StoreAndSlots, Moment, snapshot_of, Fits, get_last, set_here, Job, Scan, CompletedCall, PendingCall, request_of, upkeep_of, IsRoomOf, IsWithinRoom, RunsCall}
-use Rattle.shared_world.proofs.Imports.{IsBlocked, IsCut, IsSince, CallFollows, KeepsFitting, completed_of}
+use Rattle.shared_world.proofs.Imports.{Upkeep, StoreAndSlots, Moment, snapshot_of, Fits, get_last, set_here, Job, Scan, CompletedCall, PendingCall, request_of, upkeep_of, IsWithinRoom, RunsCall}
+use Rattle.shared_world.proofs.Imports.{IsBlocked, WasLeft, IsSince, CallFollows, KeepsFitting, completed_of}
 use Rattle.shared_world.proofs.Noting.{some_same}
 use Rattle.shared_world.proofs.Keeping.{follows_now, old_fits, touches_next, touches_none, touches_running, keeps_on, keeps_with}
 use Rattle.shared_world.proofs.Meanings.{MovesOnTo, EndsTo}

@@ -7,7 +7,7 @@ use Rattle.session_seats.specs.declared.call.Notice.{Notice}
 use Rattle.session_seats.specs.declared.call.PendingCall.{PendingCall}
 use Rattle.session_seats.specs.declared.seating.SessionView.{SessionView}
 use Rattle.shared_world.specs.Leaving.{LeavesCall}
-use Rattle.shared_world.proofs.Imports.{∥∥₁_map, SetGhosts, Ghosts, has_call, StoreAndSlots, GroupGhosts, OriginGhosts, OriginOnGhosts, inside, World, Live, HasActed, ComesOf, StillFollows, KeepsAll, MatchesPending}
+use Rattle.shared_world.proofs.Imports.{∥∥₁_map, Answer, SetGhosts, Ghosts, has_call, StoreAndSlots, GroupGhosts, OriginGhosts, OriginOnGhosts, inside, World, Live, HasActed, ComesOf, StillFollows, KeepsAll, MatchesPending}
 use Rattle.shared_world.proofs.Handing.{IsNext, comes_on, follows_on}
 use Rattle.shared_world.proofs.Noting.{runs_there, set_same, set_twice}
 
@@ -71,76 +71,51 @@ module _ {S T J : Type 0} {g : Ghosts S} {rows : SetGhosts T} {past : OriginOnGh
     })
 
 -- What the steps of the seats' cell leave. The keeper knew k and the seat v, and a look has left both so: m and
--- x. The session is s, and so is that of the seat then.
-module _ (k m v x : SessionView) (s t : ℕ) (keeper : m ≡ k) (seat : x ≡ v) (same : t ≡ s) where
-  -- nothing more is done, and the session runs this call
-  pub still_leaves : (p : PendingCall) (answer : Answer) (to : ℕ) → slice_get k.pending s ≡ Some v.call → v.call ≡ Some p → LeavesCall s false p answer to k m v x
-  still_leaves p answer to at runs = record {
+-- x. The session is s, and so is that of the seat then. Each step has a notice.
+module _ (k m : SessionView) (s t : ℕ) (keeper : m ≡ k) (same : t ≡ s) (notice : Notice) where
+  -- a call has begun
+  pub begun_view : {n : SessionView} → n ≡ keeper_with m.log (slice_set m.pending t (Some (begun_by notice (length m.log)))) → n ≡ keeper_with k.log (slice_set k.pending s (Some (begun_by notice (length k.log))))
+  begun_view known = known ∙ (λ i. keeper_with (keeper i).log (slice_set (keeper i).pending (same i) (Some (begun_by notice (length (keeper i).log)))))
+
+  -- ... and is over at once
+  pub done_view : {n l : SessionView} {r : ℕ} {o : Option PendingCall} → n ≡ keeper_with m.log (slice_set m.pending t (Some (begun_by notice (length m.log)))) → r ≡ t → o ≡ Some (begun_by notice (length m.log))
+      → l ≡ keeper_with (n.log ++ completed_by r notice o ∷ []) (slice_set n.pending r None)
+      → l ≡ keeper_with (k.log ++ completed_of s (begun_by notice (length k.log)) notice.answer notice.at ∷ []) (slice_set k.pending s None)
+  done_view known again call last =
+      let b = begun_view known in
+      let o = call ∙ ap (λ (u : SessionView). Some (begun_by notice (length u.log))) keeper in
+      last ∙ (λ i. keeper_with ((b i).log ++ completed_by ((again ∙ same) i) notice (o i) ∷ []) (slice_set (b i).pending ((again ∙ same) i) None))
+      ∙ ap (keeper_with (k.log ++ completed_of s (begun_by notice (length k.log)) notice.answer notice.at ∷ [])) (set_twice k.pending s (Some (begun_by notice (length k.log))) None)
+
+  -- the call that runs has given one entry more
+  pub given_view : {n : SessionView} {o : Option PendingCall} (p : PendingCall) → o ≡ Some p → n ≡ keeper_with m.log (slice_set m.pending t (given_by notice o)) → n ≡ keeper_with k.log (slice_set k.pending s (Some (given_more p notice.answer)))
+  given_view p runs known = known ∙ (λ i. keeper_with (keeper i).log (slice_set (keeper i).pending (same i) (given_by notice (runs i))))
+
+  -- ... or is over
+  pub ended_view : {n : SessionView} {o : Option PendingCall} (p : PendingCall) → o ≡ Some p → n ≡ keeper_with (m.log ++ completed_by t notice o ∷ []) (slice_set m.pending t None)
+      → n ≡ keeper_with (k.log ++ completed_of s p notice.answer notice.at ∷ []) (slice_set k.pending s None)
+  ended_view p runs known = known ∙ (λ i. keeper_with ((keeper i).log ++ completed_by (same i) notice (runs i) ∷ []) (slice_set (keeper i).pending (same i) None))
+
+-- a seat runs what it ran before a look
+pub ran : {x v : SessionView} {p : PendingCall} → x ≡ v → v.call ≡ Some p → x.call ≡ Some p
+ran seat runs = ap (λ (u : SessionView). u.call) seat ∙ runs
+
+-- What that leaves of the session's call. The keeper knows n then, and the seat y.
+module _ (k n v y : SessionView) (s : ℕ) where
+  -- it runs on as it did
+  pub still_leaves : (p : PendingCall) (answer : Answer) (to : ℕ) → n ≡ k → y ≡ v → slice_get k.pending s ≡ Some v.call → v.call ≡ Some p → LeavesCall s false p answer to k n v y
+  still_leaves p answer to keeper seat at runs = record {
     log = ap (λ (u : SessionView). u.log) keeper;
     pending = ap (λ (u : SessionView). u.pending) keeper ∙ sym (set_same k.pending s (Some p) (at ∙ ap Some runs));
     call = ap (λ (u : SessionView). u.call) seat ∙ runs;
     calls = ap (λ (u : SessionView). u.calls) seat;
   }
 
-  -- a call begins
-  module _ (notice : Notice) {n y : SessionView} (known : n ≡ keeper_with m.log (slice_set m.pending t (Some (begun_by notice (length m.log)))))
-      (call : y.call ≡ Some (begun_by notice (length m.log))) (calls : y.calls ≡ x.calls) where
-    pub begun_view : n ≡ keeper_with k.log (slice_set k.pending s (Some (begun_by notice (length k.log))))
-    begun_view = known ∙ (λ i. keeper_with (keeper i).log (slice_set (keeper i).pending (same i) (Some (begun_by notice (length (keeper i).log)))))
+  -- it is this now
+  pub runs_leaves : (p : PendingCall) (answer : Answer) (to : ℕ) → n ≡ keeper_with k.log (slice_set k.pending s (Some p)) → y.call ≡ Some p → y.calls ≡ v.calls → LeavesCall s false p answer to k n v y
+  runs_leaves p answer to view call calls = record { log = ap (λ (u : SessionView). u.log) view; pending = ap (λ (u : SessionView). u.pending) view; call = call; calls = calls }
 
-    pub begun_leaves_call : (answer : Answer) (to : ℕ) → LeavesCall s false (begun_by notice (length k.log)) answer to k n v y
-    begun_leaves_call answer to = record {
-      log = ap (λ (u : SessionView). u.log) begun_view;
-      pending = ap (λ (u : SessionView). u.pending) begun_view;
-      call = call ∙ ap (λ (u : SessionView). Some (begun_by notice (length u.log))) keeper;
-      calls = calls ∙ ap (λ (u : SessionView). u.calls) seat;
-    }
-
-    -- ... and is over at once
-    module _ {r : ℕ} (again : r ≡ t) {l z : SessionView} (last : l ≡ keeper_with (n.log ++ completed_by r notice y.call ∷ []) (slice_set n.pending r None)) (rests : z.call ≡ None)
-        (noted : z.calls ≡ y.calls ++ (length n.log, completed_by r notice y.call) ∷ []) where
-      done_view : l ≡ keeper_with (k.log ++ completed_of s (begun_by notice (length k.log)) notice.answer notice.at ∷ []) (slice_set k.pending s None)
-      done_view = last ∙ (λ i. keeper_with ((begun_view i).log ++ completed_by ((again ∙ same) i) notice ((begun_leaves_call notice.answer notice.at).call i) ∷ []) (slice_set (begun_view i).pending ((again ∙ same) i) None))
-          ∙ ap (keeper_with (k.log ++ completed_of s (begun_by notice (length k.log)) notice.answer notice.at ∷ [])) (set_twice k.pending s (Some (begun_by notice (length k.log))) None)
-
-      pub done_view_idle : slice_get k.pending s ≡ Some None → l ≡ keeper_with (k.log ++ completed_of s (begun_by notice (length k.log)) notice.answer notice.at ∷ []) k.pending
-      done_view_idle idle = done_view ∙ ap (keeper_with (k.log ++ completed_of s (begun_by notice (length k.log)) notice.answer notice.at ∷ [])) (set_same k.pending s None idle)
-
-      pub done_leaves_call : LeavesCall s true (begun_by notice (length k.log)) notice.answer notice.at k l v z
-      done_leaves_call = record {
-        log = ap (λ (u : SessionView). u.log) done_view;
-        pending = ap (λ (u : SessionView). u.pending) done_view;
-        call = rests;
-        calls = noted ∙ (λ i. (begun_leaves_call notice.answer notice.at).calls i ++ (length (begun_view i).log, completed_by ((again ∙ same) i) notice ((begun_leaves_call notice.answer notice.at).call i)) ∷ []);
-      }
-
-  -- the call that runs gives an entry more
-  module _ (p : PendingCall) (runs : v.call ≡ Some p) (notice : Notice) {n y : SessionView} (known : n ≡ keeper_with m.log (slice_set m.pending t (given_by notice x.call)))
-      (call : y.call ≡ given_by notice x.call) (calls : y.calls ≡ x.calls) where
-    pub given_view : n ≡ keeper_with k.log (slice_set k.pending s (Some (given_more p notice.answer)))
-    given_view = known ∙ (λ i. keeper_with (keeper i).log (slice_set (keeper i).pending (same i) (given_by notice ((ap (λ (u : SessionView). u.call) seat ∙ runs) i))))
-
-    pub given_leaves_call : (to : ℕ) → LeavesCall s false (given_more p notice.answer) notice.answer to k n v y
-    given_leaves_call to = record {
-      log = ap (λ (u : SessionView). u.log) given_view;
-      pending = ap (λ (u : SessionView). u.pending) given_view;
-      call = call ∙ ap (given_by notice) (ap (λ (u : SessionView). u.call) seat ∙ runs);
-      calls = calls ∙ ap (λ (u : SessionView). u.calls) seat;
-    }
-
-  -- ... or is over
-  module _ (p : PendingCall) (runs : v.call ≡ Some p) (notice : Notice) {n y : SessionView} (known : n ≡ keeper_with (m.log ++ completed_by t notice x.call ∷ []) (slice_set m.pending t None))
-      (rests : y.call ≡ None) (noted : y.calls ≡ x.calls ++ (length m.log, completed_by t notice x.call) ∷ []) where
-    ran : x.call ≡ Some p
-    ran = ap (λ (u : SessionView). u.call) seat ∙ runs
-
-    pub ended_view : n ≡ keeper_with (k.log ++ completed_of s p notice.answer notice.at ∷ []) (slice_set k.pending s None)
-    ended_view = known ∙ (λ i. keeper_with ((keeper i).log ++ completed_by (same i) notice (ran i) ∷ []) (slice_set (keeper i).pending (same i) None))
-
-    pub ended_leaves_call : LeavesCall s true p notice.answer notice.at k n v y
-    ended_leaves_call = record {
-      log = ap (λ (u : SessionView). u.log) ended_view;
-      pending = ap (λ (u : SessionView). u.pending) ended_view;
-      call = rests;
-      calls = noted ∙ (λ i. (seat i).calls ++ (length (keeper i).log, completed_by (same i) notice (ran i)) ∷ []);
-    }
+  -- ... or it is over
+  pub over_leaves : (p : PendingCall) (answer : Answer) (to : ℕ) → n ≡ keeper_with (k.log ++ completed_of s p answer to ∷ []) (slice_set k.pending s None) → y.call ≡ None
+      → y.calls ≡ v.calls ++ (length k.log, completed_of s p answer to) ∷ [] → LeavesCall s true p answer to k n v y
+  over_leaves p answer to view call calls = record { log = ap (λ (u : SessionView). u.log) view; pending = ap (λ (u : SessionView). u.pending) view; call = call; calls = calls }

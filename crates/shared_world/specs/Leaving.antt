@@ -4,6 +4,7 @@ use Rattle.session_calls.specs.declared.answer.Answer.{Answer}
 use Rattle.session_calls.specs.declared.answer.Answer.TheVariants.{Begun}
 use Rattle.session_seats.specs.Calls.{completed_of, empty_call}
 use Rattle.session_seats.specs.declared.call.CompletedCall.{CompletedCall}
+use Rattle.session_seats.specs.declared.call.Notice.{Notice}
 use Rattle.session_seats.specs.declared.call.PendingCall.{PendingCall}
 use Rattle.session_seats.specs.declared.job.Job.{Job}
 use Rattle.session_seats.specs.declared.seating.SessionView.{SessionView}
@@ -13,6 +14,10 @@ use Rattle.shared_world.specs.Jobs.{IsBelowRoom}
 abbrev pub is_begun : Answer → Bool
 is_begun Begun = true
 is_begun answer = false
+
+-- the notice of a call that is asked this and answers that, at this number of actions
+abbrev pub notice_of : Job → Answer → ℕ → Notice
+notice_of asked answer at = record { asked = asked; answer = answer; at = at }
 
 -- the call that a seat's session runs
 abbrev pub call_in : SessionView → PendingCall

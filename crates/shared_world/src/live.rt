@@ -16,7 +16,7 @@ ghost use Rattle.shared_world.specs.Jobs.{event_of};
 ghost use Rattle.shared_world.specs.Kept.{KeepsAll, MatchesPending};
 ghost use Rattle.shared_world.specs.Standing.{AreIdle, Stands};
 ghost use Rattle.session_seats.specs.declared.call.PendingCall.{PendingCall as RunningCall};
-ghost use Rattle.shared_world.specs.Leaving.{HasRoomLeft, LeavesCall, RunsItsCall, call_in, call_begun, is_begun};
+ghost use Rattle.shared_world.specs.Leaving.{HasRoomLeft, LeavesCall, RunsItsCall, call_begun, call_in, is_begun, notice_of};
 
 use crate::origin::OriginOn;
 use index_model::DeadRows;
@@ -65,14 +65,34 @@ fn is_begun(answer: &Answer) -> bool
     }
 }
 
+// What an event leaves its session.
+fn turn<J: SessionGroup>(seat: SessionSeat<J>, answer: Answer, over: bool) -> SessionTurn<J>
+    ensures seat { result.seat ≡ seat }
+    ensures answer { result.answer ≡ answer }
+    ensures over { result.over ≡ over }
+{
+    SessionTurn { seat, answer, over }
+}
+
+// The notice of a call that is asked this and answers that, at this number of actions.
+fn notice(asked: &Job, answer: &Answer, at: u64) -> Notice
+    ensures { result ≡ notice_of asked.now answer.now at }
+{
+    Notice {
+        asked: *asked,
+        answer: *answer,
+        at,
+    }
+}
+
 // The event that begins a job: of a commit or a checkpoint the whole of it.
-fn beginning(session: u32, job: Job) -> Event
-    ensures { result ≡ event_of session job }
+fn beginning(session: u32, job: &Job) -> Event
+    ensures { result ≡ event_of session job.now }
 {
     match job {
-        Job::Insert(entry) => Event::Insert(session, entry),
-        Job::Scan { range, .. } => Event::Scan(session, range),
-        Job::Bulk(set) => Event::Bulk(session, set),
+        Job::Insert(entry) => Event::Insert(session, *entry),
+        Job::Scan { range, .. } => Event::Scan(session, *range),
+        Job::Bulk(set) => Event::Bulk(session, *set),
         Job::Cleanup => Event::Cleanup(session),
         Job::Commit => Event::Force,
         Job::Checkpoint => Event::Checkpoint,
@@ -127,27 +147,15 @@ impl<S: PageStore, T: DeadRows + Drop, J: OriginOn<S>> Live<S, T, J> {
         } = self;
         refused_calls_fit::<S>();
         let seat = check(desk, seat);
-        let answer = world.one(beginning(session, asked));
+        let answer = world.one(beginning(session, &asked));
         *moves = moves.wrapping_add(1);
-        let notice = Notice {
-            asked,
-            answer,
-            at: from,
-        };
-        let seat = begin(desk, seat, &notice);
+        let said = notice(&asked, &answer, from);
+        let seat = begin(desk, seat, &said);
         if is_begun(&answer) {
-            return SessionTurn {
-                seat,
-                answer,
-                over: false,
-            };
+            return turn(seat, answer, false);
         }
-        let seat = end(desk, seat, &notice);
-        SessionTurn {
-            seat,
-            answer,
-            over: true,
-        }
+        let seat = end(desk, seat, &said);
+        turn(seat, answer, true)
     }
 
     /// A step of the session's call, with the checkpoint before it for which the log has too little room. If
@@ -183,23 +191,11 @@ impl<S: PageStore, T: DeadRows + Drop, J: OriginOn<S>> Live<S, T, J> {
         *moves = moves.wrapping_add(1);
         // It runs on exactly if the answer isn't the last.
         if world.is_running(session) {
-            return SessionTurn {
-                seat,
-                answer,
-                over: false,
-            };
+            return turn(seat, answer, false);
         }
-        let notice = Notice {
-            asked: Job::Commit,
-            answer,
-            at: world.actions(),
-        };
-        let seat = end(desk, seat, &notice);
-        SessionTurn {
-            seat,
-            answer,
-            over: true,
-        }
+        let said = notice(&Job::Commit, &answer, world.actions());
+        let seat = end(desk, seat, &said);
+        turn(seat, answer, true)
     }
 
     /// Asks the session's call for its next entry.
@@ -225,12 +221,9 @@ impl<S: PageStore, T: DeadRows + Drop, J: OriginOn<S>> Live<S, T, J> {
         let seat = check(desk, seat);
         let answer = world.one(Event::Next(session));
         *moves = moves.wrapping_add(1);
-        let notice = Notice {
-            asked: Job::Commit,
-            answer,
-            at: 0,
-        };
-        (gave(desk, seat, &notice), answer)
+        let said = notice(&Job::Commit, &answer, 0);
+        let seat = gave(desk, seat, &said);
+        (seat, answer)
     }
 
     /// Gives the session's scan up, before its end: it is over, with what it gave. If its room is full, it
@@ -260,11 +253,7 @@ impl<S: PageStore, T: DeadRows + Drop, J: OriginOn<S>> Live<S, T, J> {
         let seat = check(desk, seat);
         let answer = world.one(Event::End(session));
         *moves = moves.wrapping_add(1);
-        let notice = Notice {
-            asked: Job::Commit,
-            answer,
-            at: world.actions(),
-        };
-        end(desk, seat, &notice)
+        let said = notice(&Job::Commit, &answer, world.actions());
+        end(desk, seat, &said)
     }
 }
