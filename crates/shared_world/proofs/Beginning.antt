@@ -3,7 +3,7 @@ use Rattle.std.proofs.Common.{◌≡◌, ◌⊎◌, Bool, true, false, ℕ, suc,
 use Rattle.session_calls.specs.declared.request.Request.TheVariants.{Insert as ToInsert, Scan as ToScan, Bulk as ToBulk, Cleanup as ToCleanup}
 use Rattle.whole_calls.specs.Meanings.{IsSameHistory, HasBegun, NothingIsDone, BeginMeans, begun_of}
 use Rattle.session_seats.specs.declared.job.Job.TheVariants.{Insert, Scan, Bulk, Cleanup, Commit, Checkpoint}
-use Rattle.shared_world.proofs.Imports.{HasCause, Entry, SetGhosts, Fault, Blocked, Ghosts, IsCaused, DeadSets, asked_by, has_call, one_vacuums, slot_has_call, Answer, Begun, Forced, Checkpointed}
+use Rattle.shared_world.proofs.Imports.{HasCause, Entry, SetGhosts, Fault, Blocked, Ghosts, IsCaused, DeadSets, asked_by, has_call, one_vacuums, slot_has_call, Answer, Begun, Ended, Forced, Checkpointed}
 use Rattle.shared_world.proofs.Imports.{Refused, Op, Request, RefusedCallsFit, AnswersEvent, AnswersBeginning, EventAlways, UpkeepIsDone, Stays, kept_answer, causes_of_begun_at, EventDoes}
 use Rattle.shared_world.proofs.Imports.{EventEffect, KeepsHistory, Upkeep, Forces, Flushes, Checkpoints, Kind, BeginsCall, MaintainsStore, kind_of, StoreAndSlots, Moment, snapshot_of, ForEachHistory}
 use Rattle.shared_world.proofs.Imports.{EventFollows, Fits, Event, goes_does, begins_told, keeps_silent, get_within, inside, World, OriginGhosts, OriginOnGhosts, GroupGhosts, Live, Job, PendingCall, event_of, request_of}
@@ -222,3 +222,16 @@ module _ {S T J : Type 0} {g : Ghosts S} {rows : SetGhosts T} {past : OriginOnGh
         long = refl;
         next = next;
       }
+
+-- no beginning answers that a call has ended
+pub begins_no_end : {S : Type 0} (g : Ghosts S) (s : ℕ) (job : Job) (answer : Answer) (w v : StoreAndSlots S) → EventAlways g (begins s job) answer w v → answer ≡ Ended → ⊥
+begins_no_end g s job answer w v always e = by (asks_one s job)
+  where
+    upkeep_no_end : (upkeep : Upkeep) → AnswersEvent (MaintainsStore upkeep) Ended w.slots v.slots → ⊥
+    upkeep_no_end Forces h = h
+    upkeep_no_end Flushes h = h
+    upkeep_no_end Checkpoints h = h
+
+    by : AsksCall s job ⊎ AsksStore s job → ⊥
+    by (inl a) = subst (λ (x : Answer). AnswersBeginning x) e (subst (λ (kd : Kind). AnswersEvent kd answer w.slots v.slots) a.kind always.answers)
+    by (inr a) = upkeep_no_end a.upkeep (subst (λ (x : Answer). AnswersEvent (MaintainsStore a.upkeep) x w.slots v.slots) e (subst (λ (kd : Kind). AnswersEvent kd answer w.slots v.slots) a.kind always.answers))

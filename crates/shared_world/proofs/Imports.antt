@@ -57,3 +57,27 @@ pub use Rattle.session_seats.specs.declared.call.PendingCall.{PendingCall}
 pub use Rattle.session_seats.specs.declared.group.SessionGroup.{Ghosts as GroupGhosts}
 pub use Rattle.worker_seats.proofs.Queueing.{nat_cases}
 pub use Rattle.worker_seats.proofs.Rows.{get_front, get_last, get_snoc, get_there, get_within, set_cases, set_else, set_here}
+pub use Rattle.std.proofs.lemmas.Option.{slice_get_read}
+pub use Rattle.std.specs.declared.sync.ledger.Ledger.{Ghosts as LedgerGhosts}
+pub use Rattle.worker_seats.proofs.Counting.{noted_within}
+pub use Rattle.worker_seats.specs.Queue.{below, jobs_in, sum_below, weigh}
+pub use Rattle.worker_seats.specs.Seats.{keeper_of, known_by, notes_by}
+pub use Rattle.worker_seats.specs.declared.run.Run.{Ghosts as RunGhosts}
+pub use Rattle.worker_seats.specs.declared.seating.SeatView.{SeatView}
+pub use Rattle.session_seats.specs.Calls.{empty_call}
+pub use Rattle.session_seats.specs.Seats.{keeper_with, view_of}
+pub use Rattle.session_seats.specs.declared.seat.SessionSeat.{SessionSeat}
+pub use Rattle.session_seats.specs.declared.seating.SessionView.{SessionView}
+pub use Rattle.shared_world.specs.Booked.{AreBooked}
+pub use Rattle.shared_world.specs.Doing.{HasTaken, IsFullScan, MayBeDone}
+pub use Rattle.shared_world.specs.Ended.{jobs_of_records}
+pub use Rattle.shared_world.specs.Jobs.{IsRoomOf, ScanIsFull}
+pub use Rattle.shared_world.specs.Leaving.{RunsItsCall}
+pub use Rattle.shared_world.specs.Notes.{completed_call, completed_calls, job_of, jobs_of, note_of, notes_of, pending_call, pending_call_of, pending_calls, record_of}
+pub use Rattle.shared_world.specs.Seated.{AreSeated, HoldsSeat, IsSeatAt}
+pub use Rattle.shared_world.specs.Standing.{AreIdle}
+pub use Rattle.shared_world.specs.Turns.{HasNotedAt, TurnMeans}
+pub use Rattle.shared_world.specs.declared.jobs.Jobs.{Ghosts as JobGhosts}
+pub use Rattle.shared_world.specs.declared.record.Pending.{Pending}
+pub use Rattle.shared_world.specs.declared.record.Record.{Record}
+pub use Rattle.shared_world.specs.declared.shared.Shared.{Shared}

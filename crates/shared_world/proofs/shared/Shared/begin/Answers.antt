@@ -1,0 +1,81 @@
+use Rattle.std.proofs.Common.{◌≡◌, ◌++◌, ◌∷◌, [], ℕ, Bool, true, false, Option, Some, None, length, slice_set, refl, sym, ap, ◌∙◌, subst}
+use Rattle.session_seats.specs.declared.seating.SessionView.{SessionView}
+use Rattle.shared_world.specs.Leaving.{LeavesCall, call_begun}
+use Rattle.shared_world.proofs.Imports.{Answer, Begun, Ended, Event, keeper_of, event_of, inside, Pending, Record, PendingCall, IsEventDone, record_of, notes_of, jobs_of, pending_call, view_of}
+use Rattle.shared_world.proofs.Noting.{set_same}
+use Rattle.shared_world.proofs.Listing.{length_completed}
+use Rattle.shared_world.proofs.Beginning.{begins_no_end}
+use Rattle.shared_world.proofs.Serving.{keeper_in, idle_at, seat_there, session_is, call_is, leaves_at, place_within, served_on, served_done}
+use Rattle.shared_world.proofs.shared.Shared.begin.Goals as goal
+
+pub take_seat-requires : goal.take_seat-requires
+take_seat-requires g c =
+    let self = c.args.self.now in
+    record { there = seat_there self c.args.seat.worker None (idle_at self c.args.seat.worker c.check-seat.ensures.job c.requires.idle) }
+
+pub begin-turn-requires : goal.begin-turn-requires
+begin-turn-requires g c =
+    let self = c.args.self.now in
+    record { idle = call_is self c.args.seat.worker None (idle_at self c.args.seat.worker c.check-seat.ensures.job c.requires.idle) c.take_seat.result c.take_seat.ensures.seat }
+
+pub put_seat-requires : goal.put_seat-requires
+put_seat-requires g c =
+    let self = c.args.self.now in
+    record { inside = place_within self c.args.seat.worker None (idle_at self c.args.seat.worker c.check-seat.ensures.job c.requires.idle) c.take_seat.result c.take_seat.ensures.seat c.take_seat.ensures.taken }
+
+pub invariant_of-self : goal.invariant_of-self
+invariant_of-self g c =
+    let self = c.args.self.now in
+    let w = c.args.seat.worker in
+    let idle = idle_at self w c.check-seat.ensures.job c.requires.idle in
+    let seat = c.take_seat.result in
+    let there = c.take_seat.ensures.seat in
+    let turn = c.begin-turn in
+    let is = session_is self w None idle seat there in
+    let q : Pending = record { job = c.args.job; asked = c.args.asked; given = c.args.given; from = c.actions-from.result; seen = c.len-seen.result } in
+    let p : PendingCall = call_begun c.args.asked (g.S.PageStore.state self.live.world.store).acts (length (keeper_in self).log) in
+    let long = ap length self.told ∙ length_completed self.history.items ∙ sym (c.len-seen.ensures ∙ self.history.ok.0) in
+    let same : p ≡ pending_call q = (λ i. record { asked = c.args.asked; given = sym c.requires.given i; from = sym c.actions-from.ensures i; seen = long i }) in
+    let leaves = leaves_at self w None idle seat there c.if-over.true (sym c.actions-from.ensures) turn.ensures.told in
+    let always = subst (λ (n : ℕ). IsEventDone g.S.PageStore (event_of n c.args.asked) turn.result.answer (inside g.T.DeadRows self.live.world) (inside g.T.DeadRows turn.new.self.world)) is turn.ensures.event in
+    served_done self w None idle seat there turn.result.seat c.take_seat.ensures.taken c.put_seat.ensures.put turn.ensures.session q
+    leaves same c.requires.job
+    (λ e. absurd (begins_no_end g.S.PageStore w c.args.asked turn.result.answer _ _ always.always e))
+    (sym (set_same self.pending.items w None idle)) c.push_reserved.ensures.items c.record.ensures c.push_reserved.ensures.len c.push_reserved.ensures.capacity
+    c.end-seat.ensures.book c.check-seat.ensures.keeper c.check-seat.ensures.worker c.end-seat.ensures.keeper
+
+pub invariant_of-self-2 : goal.invariant_of-self-2
+invariant_of-self-2 g c =
+    let self = c.args.self.now in
+    let w = c.args.seat.worker in
+    let idle = idle_at self w c.check-seat.ensures.job c.requires.idle in
+    let seat = c.take_seat.result in
+    let there = c.take_seat.ensures.seat in
+    let turn = c.begin-turn in
+    let is = session_is self w None idle seat there in
+    let q : Pending = record { job = c.args.job; asked = c.args.asked; given = c.args.given; from = c.actions-from.result; seen = c.len-seen.result } in
+    let p : PendingCall = call_begun c.args.asked (g.S.PageStore.state self.live.world.store).acts (length (keeper_in self).log) in
+    let long = ap length self.told ∙ length_completed self.history.items ∙ sym (c.len-seen.ensures ∙ self.history.ok.0) in
+    let same : p ≡ pending_call q = (λ i. record { asked = c.args.asked; given = sym c.requires.given i; from = sym c.actions-from.ensures i; seen = long i }) in
+    let leaves = leaves_at self w None idle seat there c.if-over.false refl turn.ensures.told in
+    let v = c.check-seat.ensures.keeper ∙ self.knows in
+    served_on self w None idle seat there turn.result.seat c.take_seat.ensures.taken c.put_seat.ensures.put turn.ensures.session q leaves same c.requires.job c.requires.holds
+    refl (c.start-seat.ensures.keeper ∙ (λ i. keeper_of (v i).log (slice_set (v i).running (c.check-seat.ensures.worker i) (Some c.args.job))))
+
+pub returns-then-over-clause-event : goal.returns-then-over-clause-event
+returns-then-over-clause-event g c =
+    let self = c.args.self.now in
+    let w = c.args.seat.worker in
+    let idle = idle_at self w c.check-seat.ensures.job c.requires.idle in
+    let done = subst (λ (n : ℕ). IsEventDone g.S.PageStore (event_of n c.args.asked) c.begin-turn.result.answer (inside g.T.DeadRows self.live.world) (inside g.T.DeadRows c.begin-turn.new.self.world))
+    (session_is self w None idle c.take_seat.result c.take_seat.ensures.seat) c.begin-turn.ensures.event in
+    rw c.told.ensures.answer done
+
+pub returns-clause-event : goal.returns-clause-event
+returns-clause-event g c =
+    let self = c.args.self.now in
+    let w = c.args.seat.worker in
+    let idle = idle_at self w c.check-seat.ensures.job c.requires.idle in
+    let done = subst (λ (n : ℕ). IsEventDone g.S.PageStore (event_of n c.args.asked) c.begin-turn.result.answer (inside g.T.DeadRows self.live.world) (inside g.T.DeadRows c.begin-turn.new.self.world))
+    (session_is self w None idle c.take_seat.result c.take_seat.ensures.seat) c.begin-turn.ensures.event in
+    rw c.told-2.ensures.answer done
