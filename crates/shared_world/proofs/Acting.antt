@@ -1,5 +1,5 @@
 -- What was done for the calls that are over and those that run, after some more transitions of one session.
-use Rattle.std.proofs.Common.{◌≡◌, ◌≢◌, ◌==◌, if◌then◌else◌, Bool, true, false, ℕ, ◌<◌, ◌≤◌, List, [], ◌∷◌, ◌++◌, length, map, Option, Some, None, slice_get, slice_set, vec_capacity, refl, sym, ap, ◌∙◌, subst, inl, inr, ⊎_elim, arith, length-append, append_assoc}
+use Rattle.std.proofs.Common.{◌≡◌, ◌≢◌, ◌==◌, if◌then◌else◌, Bool, true, false, ℕ, ◌<◌, ◌≤◌, List, [], ◌∷◌, ◌++◌, length, map, Option, Some, None, slice_get, slice_set, refl, sym, ap, ◌∙◌, subst, inl, inr, ⊎_elim, arith, length-append, append_assoc}
 use Rattle.shared_world.proofs.Imports.{append-nil, length-map, AllByRecursion, has_call, Entry, Ghosts, Answer, Begun, EventEffect, kind_of, StoreAndSlots, nat_cases, get_snoc, set_here, set_else, set_cases}
 use Rattle.shared_world.proofs.Imports.{KeepsRunning, AreOfRunning, EndsCall, AreOfRecord, AreOfPending, IsKnown, HasActed, Handed, IsAsHanded, event_of, IsWithinRoom, completed_of, LockMoment}
 use Rattle.shared_world.proofs.Imports.{Transition, IsPath, Owner, OfRecord, OfSession, is_owner, owned_by, gifts_of, Job, Scan, CompletedCall, PendingCall}

@@ -1,5 +1,5 @@
 -- What asking a call for its next entry, and giving it up, leave of what is kept under the lock.
-use Rattle.std.proofs.Common.{◌≡◌, ◌<◌, ◌≤◌, ◌&&◌, not, Bool, true, false, ℕ, List, [], ◌∷◌, ◌++◌, length, Option, Some, None, slice_get, slice_set, refl, sym, ap, ◌∙◌, subst, inl, inr, arith, length-append, length-set}
+use Rattle.std.proofs.Common.{◌≡◌, ◌<◌, ◌≤◌, ◌&&◌, not, Bool, true, false, ℕ, List, [], ◌∷◌, ◌++◌, length, Option, Some, None, slice_set, refl, sym, ap, ◌∙◌, subst, inl, inr, arith, length-append, length-set}
 use Rattle.index_model.specs.Order.{IsPast, last_or}
 use Rattle.index_model.specs.declared.range.Range.{Range}
 use Rattle.schedule.specs.Ready.{MayComeNext, ReadyMayComeNext}
@@ -50,7 +50,7 @@ left_is start l more sets (Scan range room) request call s p answer to ready ask
 left_is start l more sets job request call s p answer to ready asks ask began given may le next = absurd may
 
 -- what an answer gives stands after what was given
-given_as_more : (answer : Answer) (given : List Entry) → given_after answer given ≡ given ++ gift_of answer
+pub given_as_more : (answer : Answer) (given : List Entry) → given_after answer given ≡ given ++ gift_of answer
 given_as_more (Gave (Some e)) given = refl
 given_as_more answer given = sym (append-nil given)
 

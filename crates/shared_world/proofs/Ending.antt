@@ -45,9 +45,12 @@ none_are [] none = refl
 none_are (None ∷ ps) none = ap (λ (l : List (Option PendingCall)). None ∷ l) (none_are ps (λ s q e. none (suc s) q e))
 none_are (Some p ∷ ps) none = absurd (none 0 p refl)
 
-pub none_more : (n : ℕ) → idle_calls n ++ None ∷ [] ≡ idle_calls (suc n)
-none_more zero = refl
-none_more (suc n) = ap (λ (l : List (Option PendingCall)). None ∷ l) (none_more n)
+none_next : (n : ℕ) → idle_calls n ++ None ∷ [] ≡ idle_calls (suc n)
+none_next zero = refl
+none_next (suc n) = ap (λ (l : List (Option PendingCall)). None ∷ l) (none_next n)
+
+pub none_more : (n : ℕ) → idle_calls n ++ None ∷ [] ≡ idle_calls (n + 1)
+none_more n = (let e : suc n ≡ n + 1 = omega arith in none_next n ∙ ap idle_calls e)
 
 pub idle_none : (n session : ℕ) (p : PendingCall) → slice_get (idle_calls n) session ≡ Some (Some p) → ⊥
 idle_none zero session p e = absurd cc

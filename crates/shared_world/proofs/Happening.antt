@@ -1,5 +1,5 @@
 -- What each event under the lock leaves of what is kept, by what it tells of its call.
-use Rattle.std.proofs.Common.{◌≡◌, Bool, ℕ, ◌≤◌, List, [], ◌∷◌, ◌++◌, length, Option, Some, None, slice_get, slice_set, vec_capacity, refl, sym, ap, ◌∙◌, subst, inl, inr, arith, length-append}
+use Rattle.std.proofs.Common.{◌≡◌, Bool, ℕ, ◌≤◌, List, [], ◌∷◌, ◌++◌, length, Option, Some, None, slice_get, slice_set, refl, sym, ap, ◌∙◌, subst, inl, inr, arith, length-append}
 use Rattle.shared_world.proofs.Imports.{Action, Call, Entry, Fault, Ghosts, asked_by, begun_call, Answer, Ended, Refused, Request, OneCallRuns, refused_call, AnswersUpkeep, kept_answer, KeepsHistory}
 use Rattle.shared_world.proofs.Imports.{Upkeep, StoreAndSlots, Moment, snapshot_of, Fits, get_last, set_here, Job, Scan, CompletedCall, PendingCall, request_of, upkeep_of, IsWithinRoom, RunsCall}
 use Rattle.shared_world.proofs.Imports.{IsBlocked, WasLeft, IsSince, CallFollows, KeepsFitting, completed_of}

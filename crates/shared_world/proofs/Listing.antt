@@ -1,6 +1,6 @@
 -- What the keepers' views have of the records and of the jobs that run.
-use Rattle.std.proofs.Common.{◌≡◌, ◌≢◌, ◌⊎◌, ℕ, zero, suc, ◌<◌, List, [], ◌∷◌, ◌++◌, length, Option, Some, None, slice_get, slice_set, vec_capacity, refl, sym, ap, ◌∙◌, subst, ⊎_elim, arith}
-use Rattle.shared_world.proofs.Imports.{Answer, Ended, SeatView, keeper_of, Job, CompletedCall, PendingCall, Record, Pending, AreBooked, IsRoomOf, ScanIsFull, note_of, notes_of, job_of, jobs_of, completed_call, completed_calls, pending_call, pending_call_of, pending_calls, record_of, get_snoc, set_cases}
+use Rattle.std.proofs.Common.{◌≡◌, ◌≢◌, ℕ, zero, suc, ◌<◌, List, [], ◌∷◌, ◌++◌, length, Option, Some, None, slice_get, slice_set, vec_capacity, refl, sym, ap, ◌∙◌, subst, ⊎_elim, arith}
+use Rattle.shared_world.proofs.Imports.{Ended, SeatView, keeper_of, Job, PendingCall, Record, Pending, AreBooked, IsRoomOf, ScanIsFull, note_of, notes_of, job_of, jobs_of, completed_call, completed_calls, pending_call_of, pending_calls, get_snoc, set_cases}
 use Rattle.shared_world.proofs.Noting.{some_same}
 
 pub none_there : (pending : List (Option Pending)) (s : ℕ) → slice_get (jobs_of pending) s ≡ Some None → slice_get pending s ≡ Some None
@@ -37,7 +37,6 @@ length_notes (x ∷ xs) = ap suc (length_notes xs)
 pub seat_runs : (v : SeatView) (s : ℕ) (log : List (ℕ × ℕ)) (pending : List (Option Pending)) (o t : Option ℕ) → v ≡ keeper_of log (jobs_of pending)
     → slice_get v.running s ≡ Some o → o ≡ t → slice_get (jobs_of pending) s ≡ Some t
 seat_runs v s log pending o t knows at is = ap (λ (x : SeatView). slice_get x.running s) (sym knows) ∙ at ∙ ap Some is
-
 
 pub pending_calls_set : (pending : List (Option Pending)) (s : ℕ) (o : Option Pending) → pending_calls (slice_set pending s o) ≡ slice_set (pending_calls pending) s (pending_call_of o)
 pending_calls_set [] s o = refl

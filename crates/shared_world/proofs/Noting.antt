@@ -1,5 +1,5 @@
 -- Which sessions run a call, and lists that are written.
-use Rattle.std.proofs.Common.{◌≡◌, ◌≢◌, ℕ, zero, suc, ◌<◌, ◌&&◌, not, Bool, true, false, unwrap_or, List, [], ◌∷◌, ◌++◌, length, Option, Some, None, slice_get, slice_set, refl, sym, ap, ◌∙◌, subst, ⊎_elim, arith, length-set}
+use Rattle.std.proofs.Common.{◌≡◌, ◌≢◌, ℕ, zero, suc, ◌<◌, ◌&&◌, not, Bool, true, false, unwrap_or, List, [], ◌∷◌, length, Option, Some, None, slice_get, slice_set, refl, sym, ap, ◌∙◌, subst, ⊎_elim, arith, length-set}
 use mathlib.Core.Logic.{∥∥₁_elim}
 use Rattle.shared_world.proofs.Imports.{is_last, RunsUntilLast, is_busy, has_call, slot_has_call, slot_of, Answer, OthersStay, Begun, Op, is_begun, PendingCall}
 use Rattle.shared_world.proofs.Imports.{MatchesPending, nat_cases, get_within, set_cases}

@@ -2,10 +2,10 @@
 -- of the worker's session.
 use Rattle.std.proofs.Common.{◌≡◌, ◌≢◌, ◌<◌, ◌≤◌, ◌+◌, ◌++◌, ◌∷◌, [], ℕ, Bool, true, false, unwrap_or, List, length, Option, Some, None, slice_get, slice_set, get_or, vec_len, vec_capacity, refl, sym, ap, ◌∙◌, subst, inr, ⊎_elim, arith, length-set}
 use Rattle.shared_world.proofs.Imports.{slice_get_read, SetGhosts, Ghosts, Answer, Ended, keeper_of, known_by, LedgerGhosts, RunGhosts, SeatView, JobGhosts, OriginGhosts, OriginOnGhosts, GroupGhosts, nat_cases, get_within, set_here, set_else}
-use Rattle.shared_world.proofs.Imports.{Job, Record, Pending, Shared, CompletedCall, PendingCall, SessionSeat, SessionView, view_of, completed_of, completed_call, completed_calls, pending_call, pending_call_of, pending_calls}
+use Rattle.shared_world.proofs.Imports.{Job, Record, Pending, Shared, PendingCall, SessionSeat, SessionView, view_of, completed_of, completed_calls, pending_call, pending_call_of, pending_calls}
 use Rattle.shared_world.proofs.Imports.{AreBooked, AreSeated, HoldsSeat, IsSeatAt, IsBelowRoom, IsFullScan, IsRoomOf, MayBeLeft, Scan, ScanIsFull, HasRoomLeft, LeavesCall, RunsItsCall, call_in, empty_call, record_of, notes_of, jobs_of, TurnMeans, HasNotedAt}
 use Rattle.shared_world.proofs.Noting.{some_same, set_same, set_twice}
-use Rattle.shared_world.proofs.Listing.{none_there, some_there, within, jobs_of_set, notes_of_snoc, length_notes, seat_runs, pending_calls_set, completed_calls_snoc, length_completed, booked_runs, booked_done}
+use Rattle.shared_world.proofs.Listing.{none_there, some_there, within, jobs_of_set, notes_of_snoc, length_notes, seat_runs, pending_calls_set, completed_calls_snoc, booked_runs, booked_done}
 
 -- a place that has the seat of a session has a seat
 holds : {J : Type 0} {group : GroupGhosts J} (s : ℕ) (o : Option Pending) (x : Option (Option (SessionSeat J group))) → IsSeatAt s (Some o) x → HoldsSeat x

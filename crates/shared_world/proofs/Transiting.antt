@@ -1,10 +1,10 @@
 -- The transitions of each event under the lock.
-use Rattle.std.proofs.Common.{◌≡◌, true, false, ℕ, suc, ◌<◌, ◌≤◌, List, [], ◌∷◌, ◌++◌, length, Option, Some, None, slice_get, slice_set, vec_len, vec_capacity, refl, sym, ap, ◌∙◌, subst, inl, inr, arith, length-append}
+use Rattle.std.proofs.Common.{◌≡◌, true, false, ℕ, suc, List, [], ◌∷◌, ◌++◌, length, Option, Some, None, slice_get, slice_set, refl, sym, ap, ◌∙◌, subst, inl, inr, arith, length-append}
 use Rattle.shared_world.proofs.Imports.{append-nil, Entry, Ghosts, is_last, is_busy, ready_count, has_call, slot_of, Answer, Gave, Ended, Checkpointed, Refused, EventAlways, EventEffect, kind_of}
 use Rattle.shared_world.proofs.Imports.{StoreAndSlots, ForEachHistory, EventFollows, Event, Step, Next, End, Checkpoint, IsMadeAsStep, HasActed, IsEventDone, MayBeLeft, Handed}
 use Rattle.shared_world.proofs.Imports.{IsWithinRoom, completed_of, given_more, Transition, gift_of, CompletedCall, PendingCall}
 use Rattle.shared_world.proofs.Acting.{moment_of, acts_on, acts_ended}
-use Rattle.shared_world.proofs.Noting.{some_same, clash, set_same, busy_is}
+use Rattle.shared_world.proofs.Noting.{clash, set_same, busy_is}
 use Rattle.shared_world.proofs.Meanings.{IsOfStep}
 
 -- an event of the world, as it promises it

@@ -38,10 +38,8 @@ pub struct Shared<S: PageStore, T: DeadRows + Drop, J: JobsOn<S>> {
     pub desk: Desk<J>,
     pub ghost told: { (view_of live.desk.keeper).log ≡ completed_calls history.items },
     pub ghost runs: { (view_of live.desk.keeper).pending ≡ pending_calls pending.items },
-    pub ghost booked: { AreBooked J.jobs pending.items history.items }
-        by { AreBooked-prop J.jobs pending.items history.items },
-    pub ghost seated: { AreSeated J.workers pending.items seats.items }
-        by { AreSeated-prop J.workers pending.items seats.items },
+    pub ghost booked: { AreBooked J.jobs pending.items history.items } by { AreBooked-prop J.jobs pending.items history.items },
+    pub ghost seated: { AreSeated J.workers pending.items seats.items } by { AreSeated-prop J.workers pending.items seats.items },
     pub ghost workers: { vec_len pending ≡ J.workers },
     pub ghost enough: { length J.jobs ≤ vec_capacity history },
     pub ghost counted: { book.total ≡ vec_len history },
@@ -124,10 +122,7 @@ fn keep_gift(given: &mut Vec<Entry>, answer: &Answer)
 }
 
 // Takes the seat at this place out.
-fn take_seat<J: SessionGroup>(
-    seats: &mut Vec<Option<SessionSeat<J>>>,
-    place: u32,
-) -> SessionSeat<J>
+fn take_seat<J: SessionGroup>(seats: &mut Vec<Option<SessionSeat<J>>>, place: u32) -> SessionSeat<J>
     requires there { HoldsSeat (slice_get seats.old.items place) }
     ensures seat { slice_get seats.old.items place ≡ Some (Some result) }
     ensures taken { seats.new.items ≡ slice_set seats.old.items place None }

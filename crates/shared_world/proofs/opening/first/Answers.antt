@@ -1,5 +1,5 @@
-use Rattle.std.proofs.Common.{◌≡◌, ◌∙◌, List, Option, Some, None, length, slice_get, sym, ap, subst, arith}
-use Rattle.shared_world.proofs.Imports.{keeper_of, keeper_with, view_of, Record, Pending, SessionView, AreBooked, IsSeatAt, completed_calls, notes_of, jobs_of}
+use Rattle.std.proofs.Common.{◌≡◌, ◌∙◌, Option, length, slice_get, sym, ap, subst, arith}
+use Rattle.shared_world.proofs.Imports.{keeper_of, view_of, Pending, SessionView, AreBooked, IsSeatAt, completed_calls, notes_of, jobs_of}
 use Rattle.shared_world.proofs.Ending.{none_at, none_are, none_long, idle_none, idle_calls, books_none}
 use Rattle.shared_world.proofs.opening.first.Goals as goal
 
@@ -7,23 +7,23 @@ pub new-live-requires-clause-first : goal.new-live-requires-clause-first
 new-live-requires-clause-first g c = ap (λ (v : SessionView). v.log) c.open_seats.ensures.keeper
 
 pub new-live-requires-clause-none : goal.new-live-requires-clause-none
-new-live-requires-clause-none g c session p at = idle_none c.open_seats.args.count session p (ap (λ (v : SessionView). slice_get v.pending session) (sym c.open_seats.ensures.keeper) ∙ at)
+new-live-requires-clause-none g c session p at = idle_none c.len-workers.result session p (ap (λ (v : SessionView). slice_get v.pending session) (sym c.open_seats.ensures.keeper) ∙ at)
 
 pub new-live-requires-clause-seats : goal.new-live-requires-clause-seats
-new-live-requires-clause-seats g c = omega (arith, c.requires.enough_sessions, c.len.ensures, ap (λ (v : SessionView). length v.pending) c.open_seats.ensures.keeper, none_long c.open_seats.args.count)
+new-live-requires-clause-seats g c = omega (arith, c.requires.enough_sessions, c.len-workers.ensures, ap (λ (v : SessionView). length v.pending) c.open_seats.ensures.keeper, none_long c.len-workers.result)
 
 pub invariant_of-result : goal.invariant_of-result
 invariant_of-result g c =
     let empty = c.requires.history in
     let pending = c.args.pending.items in
     let view = ap (λ d. view_of d.keeper) c.new-live.ensures.desk ∙ c.open_seats.ensures.keeper in
-    let long : c.len.result ≡ length pending = c.len.ensures ∙ c.args.pending.ok.0 in
+    let long : c.len-workers.result ≡ length pending = c.len-workers.ensures ∙ c.args.pending.ok.0 in
     record {
       told = ap (λ (v : SessionView). v.log) view ∙ ap completed_calls (sym empty);
       runs = ap (λ (v : SessionView). v.pending) view ∙ ap idle_calls long ∙ sym (none_are pending c.requires.pending);
       booked = subst (AreBooked g.J.Jobs.jobs pending) (sym empty) (books_none g.J.Jobs.jobs pending c.requires.pending);
       seated = λ s l. subst (λ (o : Option (Option Pending)). IsSeatAt s o (slice_get c.open_seats.new.seats.items s)) (sym (none_at pending c.requires.pending s (omega (arith, l, c.requires.workers, c.args.pending.ok.0))))
-          (c.open_seats.ensures.seats s (omega (arith, l, c.requires.workers, c.len.ensures)));
+          (c.open_seats.ensures.seats s (omega (arith, l, c.requires.workers, c.len-workers.ensures)));
       workers = c.requires.workers;
       enough = c.requires.enough;
       counted = c.requires.book ∙ sym (c.args.history.ok.0 ∙ ap length empty);

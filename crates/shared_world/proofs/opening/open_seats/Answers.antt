@@ -1,5 +1,5 @@
-use Rattle.std.proofs.Common.{◌++◌, ◌∷◌, [], ◌+◌, None, length, slice_get, sym, ap, ◌∙◌, subst}
-use Rattle.shared_world.proofs.Imports.{IsSeatAt, SessionView, keeper_with}
+use Rattle.std.proofs.Common.{◌++◌, ◌∷◌, [], ◌+◌, None, length, sym, ap, ◌∙◌}
+use Rattle.shared_world.proofs.Imports.{SessionView, keeper_with}
 use Rattle.shared_world.proofs.Ending.{none_more, none_long, seats_more, seats_as}
 use Rattle.shared_world.proofs.opening.open_seats.Goals as goal
 

@@ -3,7 +3,7 @@ use Rattle.session_seats.specs.Calls.{begun_by, completed_by, completed_of}
 use Rattle.session_seats.specs.Seats.{keeper_with, view_of}
 use Rattle.session_seats.specs.declared.call.Notice.{Notice}
 use Rattle.session_seats.specs.declared.seating.SessionView.{SessionView}
-use Rattle.shared_world.specs.Leaving.{LeavesCall, call_begun, notice_of}
+use Rattle.shared_world.specs.Leaving.{LeavesCall, call_begun}
 use Rattle.shared_world.proofs.Imports.{Event, inside, PendingCall, IsEventDone}
 use Rattle.shared_world.proofs.Handing.{is_next}
 use Rattle.shared_world.proofs.Noting.{begun_is, not_begun, set_same}

@@ -1,5 +1,5 @@
-use Rattle.std.proofs.Common.{◌≡◌, ℕ, true, Option, Some, slice_get, slice_set, refl, sym, ap, inr, ◌∙◌, subst}
-use Rattle.shared_world.proofs.Imports.{Answer, End, Ended, Job, Scan, ready_count, slot_of, inside, Pending, IsEventDone, IsFullScan, IsRoomOf, MayBeLeft, ScanIsFull, record_of, view_of}
+use Rattle.std.proofs.Common.{ℕ, Option, Some, slice_get, slice_set, refl, sym, ap, ◌∙◌, subst}
+use Rattle.shared_world.proofs.Imports.{End, Ended, ready_count, slot_of, inside, Pending, IsEventDone, IsFullScan, record_of}
 use Rattle.shared_world.proofs.Noting.{some_same}
 use Rattle.shared_world.proofs.Serving.{runs_at, read_here, taken_out, some_taken, turn_recorded, seat_noted, seat_there, session_is, call_in_is, runs_call, leaves_at, place_within, served_done, may_leave, full_room}
 use Rattle.shared_world.proofs.shared.Shared.end.Goals as goal

@@ -1,11 +1,11 @@
-use Rattle.std.proofs.Common.{◌≡◌, ℕ, Bool, true, false, Some, None, slice_set, refl, sym, ap, ◌∙◌, subst}
+use Rattle.std.proofs.Common.{ℕ, Some, None, slice_set, refl, sym, ap, ◌∙◌, subst}
 use Rattle.whole_calls.specs.Going.{CallIsRun}
 use Rattle.whole_calls.specs.Made.{IsMadeOf}
 use Rattle.whole_calls.specs.OneStep.{IsMadeAsStep, OneStepAlways, OneStepComesTo, OneStepIsRun}
-use Rattle.shared_world.proofs.Imports.{has_call, slot_of, keeper_of, inside, Pending, PendingCall, record_of, pending_call, view_of, notes_of}
+use Rattle.shared_world.proofs.Imports.{slot_of, keeper_of, inside, record_of, notes_of}
 use Rattle.shared_world.proofs.Noting.{set_same}
 use Rattle.shared_world.proofs.Stepping.{steps_no_end}
-use Rattle.shared_world.proofs.Serving.{keeper_in, runs_at, taken_out, some_taken, turn_recorded, seat_noted, seat_there, session_is, call_in_is, runs_call, runs_same, leaves_at, place_within, served_on, served_done}
+use Rattle.shared_world.proofs.Serving.{runs_at, taken_out, some_taken, turn_recorded, seat_noted, seat_there, session_is, call_in_is, runs_call, runs_same, leaves_at, place_within, served_on, served_done}
 use Rattle.shared_world.proofs.shared.Shared.step.Goals as goal
 
 pub take_seat-requires : goal.take_seat-requires
