@@ -1,5 +1,5 @@
--- What lies under the lock of a run of jobs: what a worker's seat tells of it, and what is so of it after an event
--- of the worker's session.
+-- What lies under the lock of a run of jobs: what a worker's seat tells of it, and what is so of it after an
+-- event of the worker's session.
 use Rattle.std.proofs.Common.{◌≡◌, ◌≢◌, ◌<◌, ◌≤◌, ◌+◌, ◌++◌, ◌∷◌, [], ℕ, Bool, true, false, unwrap_or, List, length, Option, Some, None, slice_get, slice_set, get_or, vec_len, vec_capacity, refl, sym, ap, ◌∙◌, subst, inr, ⊎_elim, arith, length-set}
 use Rattle.shared_world.proofs.Imports.{slice_get_read, SetGhosts, Ghosts, Answer, Ended, keeper_of, known_by, LedgerGhosts, RunGhosts, SeatView, JobGhosts, OriginGhosts, OriginOnGhosts, GroupGhosts, nat_cases, get_within, set_here, set_else}
 use Rattle.shared_world.proofs.Imports.{Job, Record, Pending, Shared, PendingCall, SessionSeat, SessionView, view_of, completed_of, completed_calls, pending_call, pending_call_of, pending_calls}

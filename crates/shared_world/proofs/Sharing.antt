@@ -39,8 +39,8 @@ module _ {S T J : Type 0} {g : Ghosts S} {rows : SetGhosts T} {past : OriginOnGh
       record { found = found; has = runs_there self.world.calls.slots.items pending_in s p self.matches found }
 
   module _ (world : World S T) where
-    -- an event leaves the world so, with these calls that run and this log: what was so under the lock is so of
-    -- them
+    -- an event leaves the world so, with these calls that run and this log: what was so under the lock is so
+    -- of them
     pub record CarriesOn (pending : List (Option PendingCall)) (log : List CompletedCall) : Type 0 where
       pub keeps : KeepsWith (inside rows self.world) pending_in log_in → KeepsWith (inside rows world) pending log
       pub acts : ActsWith (inside rows self.world) pending_in log_in → ActsWith (inside rows world) pending log
@@ -70,8 +70,8 @@ module _ {S T J : Type 0} {g : Ghosts S} {rows : SetGhosts T} {past : OriginOnGh
       steps = ∥∥₁_map self.steps (follows_on g past.followed (inside rows self.world) (inside rows world) leaves.next);
     })
 
--- What the steps of the seats' cell leave. The keeper knew k and the seat v, and a look has left both so: m and
--- x. The session is s, and so is that of the seat then. Each step has a notice.
+-- What the steps of the seats' cell leave. The keeper knew k and the seat v, and a look has left both so: m
+-- and x. The session is s, and so is that of the seat then. Each step has a notice.
 module _ (k m : SessionView) (s t : ℕ) (keeper : m ≡ k) (same : t ≡ s) (notice : Notice) where
   -- a call has begun
   pub begun_view : {n : SessionView} → n ≡ keeper_with m.log (slice_set m.pending t (Some (begun_by notice (length m.log)))) → n ≡ keeper_with k.log (slice_set k.pending s (Some (begun_by notice (length k.log))))

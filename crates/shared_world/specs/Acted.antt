@@ -34,8 +34,8 @@ pub record MakesRecord {S : Type 0} (g : Ghosts S) (place to : ℕ) (t : Transit
   pub next_is : t.behind.recorded ≡ suc place
   pub to_is : (g.state t.behind.here.store).acts ≡ to
 
--- the event that begins the job, or does it whole, if its session runs nothing; so many calls were over and so
--- many actions there were before
+-- the event that begins the job, or does it whole, if its session runs nothing; so many calls were over and
+-- so many actions there were before
 pub record IsBeginning {S : Type 0} (g : Ghosts S) (session : ℕ) (job : Job) (seen from : ℕ) (answer : Answer) (t : Transition S) : Type 0 where
   pub event_is : t.event ≡ event_of session job
   pub answer_is : t.answer ≡ answer
@@ -128,7 +128,8 @@ pub record IsDoneByCall {S : Type 0} (g : Ghosts S) (place : ℕ) (r : Completed
   pub runs : AreOfRunning g r.session r.asked r.seen r.from r.given ran
   pub ends : EndsCall g place r last
 
--- these were done for the call at this place of the log, and nothing else; it gave no more than its room holds
+-- these were done for the call at this place of the log, and nothing else; it gave no more than its room
+-- holds
 pub record AreOfRecord {S : Type 0} (g : Ghosts S) (place : ℕ) (r : CompletedCall) (ts : List (Transition S)) : Type 0 where
   pub most : IsWithinRoom r.asked r.given
   pub done : IsDoneAtOnce g place r ts ⊎ IsDoneByCall g place r ts

@@ -6,8 +6,8 @@ use Rattle.shared_world.specs.declared.record.Pending.{Pending}
 use Rattle.shared_world.specs.declared.record.Record.{Record}
 use Rattle.shared_world.specs.Jobs.{IsRoomOf, ScanIsFull}
 
--- Each asks what the job of its number asks. A job that runs has the room of its scan. A scan was ended by its
--- worker only if its room was full.
+-- Each asks what the job of its number asks. A job that runs has the room of its scan. A scan was ended by
+-- its worker only if its room was full.
 pub record AreBooked (jobs : List Job) (pending : List (Option Pending)) (records : List Record) : Type 0 where
   pub recorded : (place : ℕ) (r : Record) → slice_get records place ≡ Some r → slice_get jobs r.job ≡ Some r.asked
   pub running : (session : ℕ) (p : Pending) → slice_get pending session ≡ Some (Some p) → slice_get jobs p.job ≡ Some p.asked

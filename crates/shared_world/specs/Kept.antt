@@ -1,5 +1,6 @@
 -- What is kept under the lock. Whatever history and calls fitted the world as it was handed in, there are
--- more actions and more calls that fit it now. The log of the sessions lists those of the calls that are over.
+-- more actions and more calls that fit it now. The log of the sessions lists those of the calls that are
+-- over.
 use Rattle.std.specs.Prelude.{◌≡◌, ◌⊎◌, ℕ, ◌<◌, ◌≤◌, Bool, true, false, Option, Some, None, List, ◌++◌, length, slice_get}
 use Rattle.index_model.specs.Actions.{Action}
 use Rattle.index_model.specs.Calls.{Ask, Ending, Running, Added as EndsAdded, Finished as EndsFinished, Vacuumed, GivenUp, Failed, Call}
@@ -50,8 +51,8 @@ IsBlocked answer = ⊥
 abbrev pub HasEndedBy : Answer → Call → Type 0
 HasEndedBy answer call = (call.ending ≡ ending_by answer) ⊎ WasCutShort answer call
 
--- the call is what the log says of one that is over: what was asked, by its session, with its answer, all that
--- it gave, and its interval
+-- the call is what the log says of one that is over: what was asked, by its session, with its answer, all
+-- that it gave, and its interval
 pub record IsCallOf (ask : Ask) (r : CompletedCall) (call : Call) : Type 0 where
   pub ask_is : call.ask ≡ ask
   pub session_is : call.session ≡ r.session
@@ -69,8 +70,8 @@ abbrev pub WasLeft : (Entry → Bool) → List Action → Job → CompletedCall 
 WasLeft start history (Scan range room) r = (length r.given < room) ⊎ MayComeNext start history range r.from r.to r.given
 WasLeft start history job r = ⊥
 
--- The log lists a call at a place, which was asked what the log says. A scan gave no more than its room holds.
--- Its session left it rightly.
+-- The log lists a call at a place, which was asked what the log says. A scan gave no more than its room
+-- holds. Its session left it rightly.
 pub record ListsCall (start : Entry → Bool) (history : List Action) (sets : DeadSets) (calls : List Call) (at : List (Option ℕ)) (place : ℕ) (r : CompletedCall) : Type 0 where
   pub number : ℕ
   pub request : Request

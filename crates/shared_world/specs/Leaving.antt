@@ -50,8 +50,8 @@ abbrev pub call_after : Bool → PendingCall → Option PendingCall
 call_after false p = Some p
 call_after true p = None
 
--- An event of the session's call, which is this now. If it is over, it stands at the end of the log, with this
--- answer, and so many actions there were then; and its session runs nothing. No other call is touched.
+-- An event of the session's call, which is this now. If it is over, it stands at the end of the log, with
+-- this answer, and so many actions there were then; and its session runs nothing. No other call is touched.
 pub record LeavesCall (session : ℕ) (over : Bool) (p : PendingCall) (answer : Answer) (to : ℕ) (old new before after : SessionView) : Type 0 where
   -- what the keeper knows
   pub log : new.log ≡ log_after over (completed_of session p answer to) old.log

@@ -11,8 +11,8 @@ use Rattle.schedule.specs.TheoremMoments.{StoreAndSlots, snapshot_of}
 use Rattle.schedule.specs.TheoremRuns.{Fits}
 use Rattle.shared_world.specs.Handed.{StillFollows}
 
--- whatever stood as it was handed in fits now; if its history was kept over crashes then, it is; and the store
--- follows what it followed then
+-- whatever stood as it was handed in fits now; if its history was kept over crashes then, it is; and the
+-- store follows what it followed then
 pub record Stands {S : Type 0} (g : Ghosts S) (stood kept_then : (Entry → Bool) → List Action → List Call → Type 0) (followed : S → Type 0)
     (now : StoreAndSlots S) : Type 0 where
   pub fits : (contents : Entry → Bool) (history : List Action) (calls : List Call) → stood contents history calls → Fits g contents (snapshot_of now history calls)

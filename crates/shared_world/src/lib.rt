@@ -1,5 +1,5 @@
-//! A world under one lock, with sessions of threads that share it: each event in one hold. Or with the jobs of
-//! a run, and a record of each.
+//! A world under one lock, with sessions of threads that share it: each event in one hold. Or with the jobs
+//! of a run, and a record of each.
 #![tactic(auto)]
 
 mod jobs;

@@ -46,7 +46,8 @@ pub struct Shared<S: PageStore, T: DeadRows + Drop, J: JobsOn<S>> {
     pub ghost knows: { known_by desk.keeper ≡ keeper_of (notes_of history.items) (jobs_of pending.items) },
 }
 
-/// What an event under the lock leaves its worker: its seat, the answer, and the place of the record, if it made one.
+/// What an event under the lock leaves its worker: its seat, the answer, and the place of the record, if it
+/// made one.
 #[derive(Drop)]
 pub struct Turn<J: Jobs> {
     pub seat: Seat<J>,
@@ -163,8 +164,8 @@ fn is_full(asked: Job, running: &Option<Pending>, ready: u32) -> bool
 }
 
 impl<S: PageStore, T: DeadRows + Drop, J: JobsOn<S>> Shared<S, T, J> {
-    /// Begins a job: a call of the worker's session, or a commit or a checkpoint, which is done whole. Where that is refused,
-    /// and after a commit and a checkpoint, it is recorded, and has its place.
+    /// Begins a job: a call of the worker's session, or a commit or a checkpoint, which is done whole. Where
+    /// that is refused, and after a commit and a checkpoint, it is recorded, and has its place.
     pub fn begin(&mut self, seat: Seat<J>, job: u32, asked: Job, given: Vec<Entry>) -> Turn<J>
         requires idle { (known_by seat.pass).job ≡ None }
         requires job { slice_get J.jobs job ≡ Some asked }
@@ -218,8 +219,8 @@ impl<S: PageStore, T: DeadRows + Drop, J: JobsOn<S>> Shared<S, T, J> {
         told(seat, answer, None)
     }
 
-    /// A step of the session's call, with the checkpoint before it for which the log has too little room. If its answer is the
-    /// last, it is recorded, and has its place; if it is blocked, it goes on.
+    /// A step of the session's call, with the checkpoint before it for which the log has too little room. If
+    /// its answer is the last, it is recorded, and has its place; if it is blocked, it goes on.
     pub fn step(&mut self, seat: Seat<J>, job: u32) -> Turn<J>
         requires runs { (known_by seat.pass).job ≡ Some job }
         requires room { vec_len self.old.history < vec_capacity self.old.history }
@@ -271,8 +272,8 @@ impl<S: PageStore, T: DeadRows + Drop, J: JobsOn<S>> Shared<S, T, J> {
         told(seat, answer, None)
     }
 
-    /// Asks the session's call for its next entry, which is put after those that it has given. If their room is full, nothing
-    /// is done, and there is no answer.
+    /// Asks the session's call for its next entry, which is put after those that it has given. If their room
+    /// is full, nothing is done, and there is no answer.
     pub fn next(&mut self, seat: Seat<J>, job: u32) -> (Seat<J>, Option<Answer>)
         requires runs { (known_by seat.pass).job ≡ Some job }
         ensures worker { result.0.worker ≡ seat.worker }
@@ -308,8 +309,8 @@ impl<S: PageStore, T: DeadRows + Drop, J: JobsOn<S>> Shared<S, T, J> {
         (seat, Some(answer))
     }
 
-    /// Gives the call of the session's scan up, if its room is full and it has an entry more ready: it is recorded with what it
-    /// gave, and has its place. Else nothing is done.
+    /// Gives the call of the session's scan up, if its room is full and it has an entry more ready: it is
+    /// recorded with what it gave, and has its place. Else nothing is done.
     pub fn end(&mut self, seat: Seat<J>, job: u32, asked: Job) -> (Seat<J>, Option<u64>)
         requires runs { (known_by seat.pass).job ≡ Some job }
         requires job { slice_get J.jobs job ≡ Some asked }
