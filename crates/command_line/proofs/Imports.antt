@@ -23,7 +23,7 @@ pub use Rattle.session_calls.specs.declared.answer.Answer.TheVariants.{Refused a
 pub use Rattle.schedule.specs.declared.event.Event.TheVariants.{Checkpoint, Insert, Step}
 pub use Rattle.world.specs.Worlds.{ForEachWorldHistory, WorldIsRun, WorldRuns, inside, snapshot_in}
 pub use Rattle.world.specs.declared.world.World.{World}
-pub use Rattle.shared_world.specs.declared.job.Job.{Job}
+pub use Rattle.session_seats.specs.declared.job.Job.{Job}
 pub use Rattle.text_forms.specs.Printing.{answer_text}
 pub use Rattle.text_forms.specs.Spelling.{lines_of, words_of}
 pub use Rattle.command_line.specs.Commands.{DoesCommand, IsNoCommand, Named, NamesNone, PrintsCheck, PrintsCommand, PrintsCreation, PrintsDump, PrintsPlay, PrintsRunning}

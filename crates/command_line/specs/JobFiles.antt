@@ -7,8 +7,8 @@ use Rattle.text_forms.specs.Values.{IsEntryOfBytes, IsRangeOfBytes, AreRows, ent
 use Rattle.command_line.specs.declared.dead.DeadList.{DeadList}
 use Rattle.command_line.specs.declared.job_line.JobLine.{JobLine}
 use Rattle.command_line.specs.declared.job_line.JobLine.TheVariants.{Insert, Scan, Bulk, Cleanup, Commit, Checkpoint}
-use Rattle.shared_world.specs.declared.job.Job.{Job}
-use Rattle.shared_world.specs.declared.job.Job.TheVariants.{Insert as InsertJob, Scan as ScanJob, Bulk as BulkJob, Cleanup as CleanupJob, Commit as CommitJob, Checkpoint as CheckpointJob}
+use Rattle.session_seats.specs.declared.job.Job.{Job}
+use Rattle.session_seats.specs.declared.job.Job.TheVariants.{Insert as InsertJob, Scan as ScanJob, Bulk as BulkJob, Cleanup as CleanupJob, Commit as CommitJob, Checkpoint as CheckpointJob}
 
 -- the words of a line
 abbrev pub job_words : JobLine → List (List ℕ)

@@ -16,7 +16,7 @@ use Rattle.page_store.specs.declared.store.Store.{Store}
 use Rattle.recovery.specs.Index.{HasIndex}
 use Rattle.recovery.specs.Opening.{AreFrames, IsNoMemoryOrIo, IsRefusal}
 use Rattle.sessions.specs.Finishing.{RunIsRefusedFor}
-use Rattle.shared_world.specs.declared.job.Job.{Job}
+use Rattle.session_seats.specs.declared.job.Job.{Job}
 use Rattle.text_forms.specs.Spelling.{lines_of}
 use Rattle.tree_acts.specs.TheoremKeys.{IsTreeFor}
 use Rattle.world.specs.declared.world.World.{World}

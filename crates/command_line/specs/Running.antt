@@ -8,7 +8,7 @@ use Rattle.session_calls.specs.declared.answer.Answer.{Answer}
 use Rattle.session_calls.specs.declared.answer.Answer.TheVariants.{Refused as NotMade}
 use Rattle.shared_world.specs.Doing.{IsEventDone}
 use Rattle.sessions.specs.Finishing.{IsFinished}
-use Rattle.shared_world.specs.declared.job.Job.{Job}
+use Rattle.session_seats.specs.declared.job.Job.{Job}
 use Rattle.sessions.specs.declared.outcome.Finished.{Finished}
 use Rattle.world.specs.Worlds.{inside}
 use Rattle.world.specs.declared.world.World.{World}

@@ -9,7 +9,7 @@ use Rattle.page_store.specs.Stores.{state_of, device_of}
 use Rattle.page_store.specs.declared.store.Store.{Store}
 use Rattle.recovery.specs.Index.{HasIndex}
 use Rattle.recovery.specs.Opening.{IsFreshlyOpened}
-use Rattle.shared_world.specs.declared.job.Job.{Job}
+use Rattle.session_seats.specs.declared.job.Job.{Job}
 use Rattle.tree_acts.specs.TheoremKeys.{IsTreeFor}
 use Rattle.world.specs.Reopening.{BeginsWith}
 use Rattle.world.specs.declared.world.World.{World}

@@ -2,7 +2,7 @@
 use Rattle.std.proofs.Common.{◌≡◌, ℕ, ◌<◌, Bool, List, [], length, Option, Some, None, IfSome, slice_get, refl, sym, ap, ◌∙◌, arith}
 use Rattle.std.specs.List.{sum}
 use Rattle.sessions.specs.declared.outcome.Finished.{Finished}
-use Rattle.sessions.proofs.Imports.{length-map, ∥∥₁_map, Action, Call, Entry, SetGhosts, Ghosts, StoreAndSlots, WorldFits, WorldKeeps, World, Job, Receipt, Record, Pending, HasRun, IsFinished}
+use Rattle.sessions.proofs.Imports.{length-map, ∥∥₁_map, Action, Call, Entry, SetGhosts, Ghosts, StoreAndSlots, WorldFits, WorldKeeps, World, Job, Receipt, Record, PendingCall, CompletedCall, completed_calls, HasRun, IsFinished}
 use Rattle.sessions.proofs.Imports.{IsReceiptFor, handed_of, jobs_of_records, receipt_of, records_of, Handed, KeepsFitting, get_within}
 use Rattle.sessions.proofs.Receipting.{all_below, as_many, each_once, get_mapped, got_mapped, one_place, place_of}
 
@@ -14,10 +14,10 @@ same_there : {A : Type 0} (o : Option A) (x y : A) → o ≡ Some x → o ≡ So
 same_there o x y e f = cc
 
 -- what is kept, if less was kept then
-keeps_as : {S : Type 0} (g : Ghosts S) (jobs : List Job) (contents : Entry → Bool) (old : List Action) (calls : List Call) (A B : Type 0)
-    (now : StoreAndSlots S) (start : ℕ) (pending : List (Option Pending)) (records : List Record)
-    → (A → B) → KeepsFitting g jobs contents old calls B now start pending records → KeepsFitting g jobs contents old calls A now start pending records
-keeps_as g jobs contents old calls A B now start pending records f k = record {
+keeps_as : {S : Type 0} (g : Ghosts S) (contents : Entry → Bool) (old : List Action) (calls : List Call) (A B : Type 0)
+    (now : StoreAndSlots S) (start : ℕ) (pending : List (Option PendingCall)) (records : List CompletedCall)
+    → (A → B) → KeepsFitting g contents old calls B now start pending records → KeepsFitting g contents old calls A now start pending records
+keeps_as g contents old calls A B now start pending records f k = record {
   history = k.history;
   calls = k.calls;
   at = k.at;
@@ -80,9 +80,10 @@ module _ {S T : Type 0} (g : Ghosts S) (rows : SetGhosts T) (stood kept_then : (
   pub finished : IsFinished g rows jobs workers world done
   finished = record {
     kept = ∥∥₁_map h.kept
-        (λ all honest contents history calls fit. keeps_as g jobs contents history calls (WorldKeeps g rows world contents history calls) (kept_then contents history calls) _ done.start [] records
+        (λ all honest contents history calls fit. keeps_as g contents history calls (WorldKeeps g rows world contents history calls) (kept_then contents history calls) _ done.start [] (completed_calls records)
         (keeps contents history calls) (all honest contents history calls (fits contents history calls fit)));
     acted = h.acted;
+    booked = h.booked;
     comes = h.comes;
     steps = ∥∥₁_map h.steps (λ all first was. all first (followed_then first was));
     idle = h.idle;

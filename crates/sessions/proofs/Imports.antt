@@ -25,9 +25,11 @@ pub use Rattle.sessions.specs.Finishing.{HaveTold, IsFinished, IsReceiptFor, job
 pub use Rattle.shared_world.specs.Handed.{Handed, handed_of}
 pub use Rattle.shared_world.specs.Jobs.{room_of}
 pub use Rattle.shared_world.specs.Kept.{KeepsFitting}
-pub use Rattle.shared_world.specs.Notes.{job_of, jobs_of}
+pub use Rattle.shared_world.specs.Notes.{completed_calls, job_of, jobs_of}
+pub use Rattle.session_seats.specs.declared.call.CompletedCall.{CompletedCall}
+pub use Rattle.session_seats.specs.declared.call.PendingCall.{PendingCall}
 pub use Rattle.shared_world.specs.Turns.{SeatMeans, SitsOn}
-pub use Rattle.shared_world.specs.declared.job.Job.{Job}
+pub use Rattle.session_seats.specs.declared.job.Job.{Job}
 pub use Rattle.sessions.specs.declared.outcome.Receipt.{Receipt}
 pub use Rattle.shared_world.specs.declared.record.Pending.{Pending}
 pub use Rattle.shared_world.specs.declared.record.Record.{Record}

@@ -11,15 +11,18 @@ use Rattle.session_calls.specs.declared.op.Op.{Op}
 use Rattle.worker_seats.specs.Queue.{times}
 use Rattle.world.specs.Worlds.{WorldFits, WorldKeeps, inside}
 use Rattle.world.specs.declared.world.World.{World}
-use Rattle.shared_world.specs.declared.job.Job.{Job}
+use Rattle.session_seats.specs.declared.job.Job.{Job}
 use Rattle.sessions.specs.declared.outcome.Finished.{Finished}
 use Rattle.sessions.specs.declared.outcome.Receipt.{Receipt}
 use Rattle.shared_world.specs.declared.record.Record.{Record}
 use Rattle.shared_world.specs.Acted.{HasActed}
-use Rattle.shared_world.specs.Ended.{AreIdle, jobs_of_records}
+use Rattle.shared_world.specs.Booked.{AreBooked}
+use Rattle.shared_world.specs.Ended.{jobs_of_records}
 use Rattle.shared_world.specs.Handed.{ComesOf, handed_of}
 use Rattle.shared_world.specs.Jobs.{room_of}
 use Rattle.shared_world.specs.Kept.{KeepsAll}
+use Rattle.shared_world.specs.Notes.{completed_calls}
+use Rattle.shared_world.specs.Standing.{AreIdle}
 
 -- 1 to 64 workers, no more than there are sessions; and 65,536 jobs at most, whose scans may give 1,048,576
 -- entries at most in all
@@ -59,8 +62,9 @@ pub record IsReceiptFor (records : List Record) (job : ℕ) (receipt : Receipt) 
 
 -- ... and each has its receipt
 pub record IsFinished {S T : Type 0} (g : Ghosts S) (rows : SetGhosts T) (jobs : List Job) (workers : ℕ) (world : World S T) (done : Finished S T) : Type 0 where
-  pub kept : ∥ KeepsAll g (WorldFits g rows world) (WorldKeeps g rows world) jobs (inside rows done.world) done.start [] done.history.items ∥₁
-  pub acted : ∥ HasActed g (handed_of g rows world) jobs (inside rows done.world) [] done.history.items ∥₁
+  pub kept : ∥ KeepsAll g (WorldFits g rows world) (WorldKeeps g rows world) (inside rows done.world) done.start [] (completed_calls done.history.items) ∥₁
+  pub acted : ∥ HasActed g (handed_of g rows world) (inside rows done.world) [] (completed_calls done.history.items) ∥₁
+  pub booked : AreBooked jobs [] done.history.items
   pub comes : ∥ ComesOf g (handed_of g rows world) done.start (inside rows done.world) ∥₁
   pub steps : ∥ Continues g.follows world.store done.world.store ∥₁
   pub idle : AreIdle done.world.calls.slots.items

@@ -2,10 +2,10 @@
 
 ghost use Rattle.std.specs.Prelude.{◌≡◌, ◌≤◌, ◌<◌, ◌+◌, [], IfOk, IfErr, length, vec_capacity};
 ghost use Rattle.world.specs.Worlds.{inside};
-ghost use Rattle.shared_world.specs.Ended.{AreIdle, HasRun};
+ghost use Rattle.shared_world.specs.Ended.{HasRun};
 ghost use Rattle.shared_world.specs.Handed.{IsAsHanded};
 ghost use Rattle.sessions.specs.Finishing.{HaveTold};
-ghost use Rattle.shared_world.specs.Standing.{Stands};
+ghost use Rattle.shared_world.specs.Standing.{AreIdle, Stands};
 
 use crate::context::RunContext;
 use crate::crew::Number;

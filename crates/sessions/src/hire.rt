@@ -6,11 +6,11 @@ ghost use Rattle.session_calls.specs.Slots.{has_call};
 ghost use Rattle.worker_seats.specs.Queue.{KnowsAll, jobs_in, sum_over, weigh};
 ghost use Rattle.worker_seats.specs.Seats.{keeper_of, known_by};
 ghost use Rattle.world.specs.Worlds.{inside};
-ghost use Rattle.shared_world.specs.Ended.{AreIdle, HasRun};
+ghost use Rattle.shared_world.specs.Ended.{HasRun};
 ghost use Rattle.shared_world.specs.Handed.{IsAsHanded};
 ghost use Rattle.shared_world.specs.Notes.{jobs_of};
 ghost use Rattle.sessions.specs.Finishing.{HaveTold};
-ghost use Rattle.shared_world.specs.Standing.{Stands};
+ghost use Rattle.shared_world.specs.Standing.{AreIdle, Stands};
 ghost use Rattle.shared_world.specs.declared.record.Pending.{Pending as WaitingJob};
 
 use crate::context::RunContext;
@@ -228,6 +228,8 @@ pub fn hire<
         staff,
         hands,
         seats,
+        sessions,
+        session_seats,
     } = room;
     let started = start_all(
         scope,
@@ -246,7 +248,15 @@ pub fn hire<
     let share = all.split_off(1, 0);
     let own = open(&mut desk, share, last);
     pending.push_reserved(None);
-    let shared = first(world, history, pending, book, desk);
+    let shared = first(
+        world,
+        history,
+        pending,
+        session_seats,
+        book,
+        desk,
+        sessions,
+    );
     let threads = all_started::<J, K, G::Hand>(&handles);
     put(run, Slot::Open(shared, threads.again()));
     let hand = run.gate.hand(last);

@@ -3,7 +3,7 @@
 ghost use Rattle.std.specs.Prelude.{◌≡◌, ◌≤◌, ℕ, true, false, IfSome, None, length};
 ghost use Rattle.std.specs.List.{sum_by};
 ghost use Rattle.session_calls.specs.Slots.{has_call};
-ghost use Rattle.shared_world.specs.Ended.{AreIdle};
+ghost use Rattle.shared_world.specs.Standing.{AreIdle};
 ghost use Rattle.sessions.specs.Finishing.{RunIsRefusedFor, IsWithinLimits};
 ghost use Rattle.shared_world.specs.Jobs.{room_of};
 

@@ -8,10 +8,14 @@ ghost use Rattle.index_model.specs.Calls.{Call};
 ghost use Rattle.index_model.specs.declared.entry.Entry.{Entry as OneEntry};
 ghost use Rattle.page_action.specs.States.{Continues, IsLater};
 ghost use Rattle.worker_seats.specs.Queue.{below, queue_view, times, weigh};
+ghost use Rattle.session_seats.specs.Seats.{IsSessionCell, keeper_with, view_of};
 ghost use Rattle.worker_seats.specs.Seats.{IsCellOf, keeper_of, known_by};
 ghost use Rattle.world.specs.Worlds.{WorldFits, WorldKeeps, inside};
 ghost use Rattle.shared_world.specs.Acted.{HasActed};
-ghost use Rattle.shared_world.specs.Ended.{AreIdle, jobs_of_records};
+ghost use Rattle.shared_world.specs.Booked.{AreBooked};
+ghost use Rattle.shared_world.specs.Ended.{jobs_of_records};
+ghost use Rattle.shared_world.specs.Notes.{completed_calls};
+ghost use Rattle.shared_world.specs.Standing.{AreIdle};
 ghost use Rattle.sessions.specs.Finishing.{HaveTold, IsFinished, IsReceiptFor, RunIsRefusedFor, IsWithinLimits, receipt_of, records_of};
 ghost use Rattle.shared_world.specs.Handed.{handed_of};
 ghost use Rattle.shared_world.specs.Kept.{KeepsAll};
@@ -26,6 +30,7 @@ use crate::run_room::make_room;
 use crate::ticket::{JobList, JobTicket, all_tickets};
 use index_model::{DeadRows, Fault};
 use page_action::PageStore;
+use session_seats::{SessionCell, SessionDesk, SessionPass};
 use shared_world::{Job, JobsOn, Record};
 use std::alloc::Global;
 use std::marker::Brand;
@@ -113,6 +118,8 @@ fn run_named<
     queue: &JobQueue<JobTicket<K>>,
     cell: SeatCell,
     keeper: SeatPass,
+    session_cell: SessionCell,
+    session_keeper: SessionPass,
     pass: QueuePass<JobTicket<K>>,
     blank: Blank,
     world: World<S, T>,
@@ -124,6 +131,7 @@ fn run_named<
     requires parts { blank.parts ≡ J.parts }
     requires all { blank.parts ≡ 65 }
     requires seats { IsCellOf J.seats cell.shared.table_id }
+    requires sessions { IsSessionCell J.sessions session_cell.shared.table_id }
     requires queue { queue.now.table.shared.table_id ≡ J.queue }
     requires jobs { J.jobs ≡ jobs.now }
     requires list { K.list ≡ jobs.now }
@@ -138,6 +146,8 @@ fn run_named<
     requires followed { (first : S) → J.followed first ↔ S.follows first world.store }
     requires keeper { keeper.table_id ≡ cell.shared.table_id }
     requires knows { known_by keeper ≡ keeper_of [] [] }
+    requires session_keeper { session_keeper.table_id ≡ session_cell.shared.table_id }
+    requires session_knows { view_of session_keeper ≡ keeper_with [] [] }
     requires pass { IsPassOf queue.now pass }
     requires whole { view pass ≡ queue_view 1024 (length jobs.now) [] }
     requires limits { IsWithinLimits (length world.calls.slots.items) jobs.now workers }
@@ -149,10 +159,17 @@ fn run_named<
     ensures told { IfOk result (λ r.
         HaveTold G.Hand.told workers r.1.items r.0.history.items) }
 {
-    let (book, all) = blank.open::<J>();
     let desk = Desk::new(cell, keeper);
-    let Some(room) = make_room::<J, K, G::Hand>(alloc, desk, pass, book, all, jobs.len(), workers)
-    else {
+    let sessions = SessionDesk::new(session_cell, session_keeper);
+    let Some(room) = make_room::<J, K, G::Hand>(
+        alloc,
+        desk,
+        sessions,
+        pass,
+        blank.open::<J>(),
+        jobs.len(),
+        workers,
+    ) else {
         return Err(no_memory(world));
     };
     let Some((receipts, calls)) = make_tables(alloc, jobs.len(), workers) else {
@@ -200,9 +217,24 @@ fn run_listed<
     let Some((cell, keeper)) = make_cell(alloc) else {
         return Err(no_memory(world));
     };
+    let Some((session_cell, session_keeper)) = session_seats::make_cell(alloc) else {
+        return Err(no_memory(world));
+    };
     let blank = Blank::new(65);
     run_named::<S, T, Brand, K, G, R>(
-        rt, alloc, &queue, cell, keeper, pass, blank, world, jobs, workers, gate,
+        rt,
+        alloc,
+        &queue,
+        cell,
+        keeper,
+        session_cell,
+        session_keeper,
+        pass,
+        blank,
+        world,
+        jobs,
+        workers,
+        gate,
     )
 }
 
@@ -274,11 +306,13 @@ pub fn run_jobs<
     ensures free { OnOk result (AreIdle world.calls.slots.items) }
     ensures kept { IfOk result (λ done. ∥ KeepsAll S.PageStore
         (WorldFits S.PageStore T.DeadRows world) (WorldKeeps S.PageStore T.DeadRows world)
-        jobs.now (inside T.DeadRows done.world) done.start [] done.history.items ∥₁) }
+        (inside T.DeadRows done.world) done.start [] (completed_calls done.history.items) ∥₁) }
     // What was done for each record, whatever the pages are.
     ensures acted { IfOk result (λ done. ∥ HasActed S.PageStore
-        (handed_of S.PageStore T.DeadRows world) jobs.now (inside T.DeadRows done.world) []
-        done.history.items ∥₁) }
+        (handed_of S.PageStore T.DeadRows world) (inside T.DeadRows done.world) []
+        (completed_calls done.history.items) ∥₁) }
+    // Each record asks what the job of its number does. A scan was cut only if its room was full.
+    ensures booked { IfOk result (λ done. AreBooked jobs.now [] done.history.items) }
     // What its store followed it follows still, so that the law of crashes holds over the run.
     ensures steps { IfOk result (λ done.
         ∥ Continues S.follows world.store done.world.store ∥₁) }

@@ -12,7 +12,7 @@ use worker_seats::Ticket;
 /// A list of jobs. A run picks its own before it makes its queue, whose tickets name it.
 pub trait JobList {
     ghost use Rattle.std.specs.Prelude.{List};
-    ghost use Rattle.shared_world.specs.declared.job.Job.{Job};
+    ghost use Rattle.session_seats.specs.declared.job.Job.{Job};
 
     /// The jobs, by their numbers.
     ghost list: { List Job };

@@ -1,8 +1,8 @@
--- What was done for the records and the jobs that run, after some more transitions of one session.
-use Rattle.std.proofs.Common.{◌≡◌, ◌≢◌, ◌==◌, if◌then◌else◌, Bool, true, false, ℕ, ◌<◌, ◌≤◌, List, [], ◌∷◌, ◌++◌, length, map, Option, Some, None, slice_get, slice_set, vec_capacity, refl, sym, ap, ◌∙◌, subst, inl, inr, ⊎_elim, arith, length-append, append_assoc}
+-- What was done for the calls that are over and those that run, after some more transitions of one session.
+use Rattle.std.proofs.Common.{◌≡◌, ◌≢◌, ◌==◌, if◌then◌else◌, Bool, true, false, ℕ, ◌<◌, ◌≤◌, List, [], ◌∷◌, ◌++◌, length, map, Option, Some, None, slice_get, slice_set, refl, sym, ap, ◌∙◌, subst, inl, inr, ⊎_elim, arith, length-append, append_assoc}
 use Rattle.shared_world.proofs.Imports.{append-nil, length-map, AllByRecursion, has_call, Entry, Ghosts, Answer, Begun, EventEffect, kind_of, StoreAndSlots, nat_cases, get_snoc, set_here, set_else, set_cases}
-use Rattle.shared_world.proofs.Imports.{KeepsRunning, AreOfRunning, EndsCall, AreOfRecord, AreOfPending, IsKnown, HasActed, Handed, IsAsHanded, event_of, IsRoomOf, IsWithinRoom, record_of, LockMoment}
-use Rattle.shared_world.proofs.Imports.{Transition, IsPath, Owner, OfRecord, OfSession, is_owner, owned_by, gifts_of, Job, Scan, Record, Pending}
+use Rattle.shared_world.proofs.Imports.{KeepsRunning, AreOfRunning, EndsCall, AreOfRecord, AreOfPending, IsKnown, HasActed, Handed, IsAsHanded, event_of, IsWithinRoom, completed_of, LockMoment}
+use Rattle.shared_world.proofs.Imports.{Transition, IsPath, Owner, OfRecord, OfSession, is_owner, owned_by, gifts_of, Job, Scan, CompletedCall, PendingCall}
 use Rattle.shared_world.proofs.Noting.{some_same, clash}
 use Rattle.shared_world.proofs.Owning.{same_test, other_test, all_both, all_so, all_mapped, owners_for, length_for, all_for, owned_nobody, owned_own, owned_else, gifts-append, handed_over, owned_by_record, owned_by_other_record, owned_by_other_session}
 
@@ -29,17 +29,13 @@ running_more {S} g s job seen from given ts us on r = record {
   given_is = ap (λ (l : List Entry). l ++ gifts_of us) r.given_is ∙ sym (gifts-append r.more us);
 }
 
--- a room is never overrun
-pub within_its_room : (job : Job) (p : Pending) → IsRoomOf job (vec_capacity p.given) → IsWithinRoom job p.given.items
-within_its_room (Scan range room) p is = (let cap : vec_capacity p.given ≡ room = is in let long = p.given.ok.0 in let fits = p.given.ok.1 in omega (arith, cap, long, fits))
-within_its_room job p is = tt
-
+-- nothing is within any room
 pub nothing_within : (job : Job) (given : List Entry) → given ≡ [] → IsWithinRoom job given
 nothing_within (Scan range room) given e = (let n = ap (λ (l : List Entry). length l) e in omega (arith, n))
 nothing_within job given e = tt
 
-module _ {S : Type 0} (g : Ghosts S) (handed : Handed) (jobs : List Job) (w v : StoreAndSlots S) (pending : List (Option Pending))
-    (records : List Record) (a : HasActed g handed jobs w pending records) where
+module _ {S : Type 0} (g : Ghosts S) (handed : Handed) (w v : StoreAndSlots S) (pending : List (Option PendingCall))
+    (records : List CompletedCall) (a : HasActed g handed w pending records) where
   abbrev n : ℕ
   n = length records
 
@@ -65,7 +61,7 @@ module _ {S : Type 0} (g : Ghosts S) (handed : Handed) (jobs : List Job) (w v : 
   none_next = all_so (IsKnown pending records) _ a.owners apart_next a.known
 
   -- what is known stays so if the session runs a job then
-  known_runs : (s : ℕ) (p : Pending) (was : Option Pending) → slice_get pending s ≡ Some was → (x : Owner) → IsKnown pending records x → IsKnown (slice_set pending s (Some p)) records x
+  known_runs : (s : ℕ) (p : PendingCall) (was : Option PendingCall) → slice_get pending s ≡ Some was → (x : Owner) → IsKnown pending records x → IsKnown (slice_set pending s (Some p)) records x
   known_runs s p was at (OfRecord place) h = h
   known_runs s p was at (OfSession t) h = ⊎_elim
       (λ (e : t ≡ s). (p, ap (slice_get (slice_set pending s (Some p))) e ∙ set_here pending s was (Some p) at))
@@ -73,18 +69,15 @@ module _ {S : Type 0} (g : Ghosts S) (handed : Handed) (jobs : List Job) (w v : 
       (nat_cases t s)
 
   -- a job begins in a session
-  pub acts_begun : (s : ℕ) (p : Pending) (job : Job) → has_call w.slots s ≡ false → slice_get pending s ≡ Some None → slice_get jobs p.job ≡ Some job
-      → IsRoomOf job (vec_capacity p.given) → p.from ≡ (g.state w.store).acts → p.seen ≡ n → p.given.items ≡ []
-      → EventEffect g (kind_of (event_of s job)) Begun w v → HasActed g handed jobs v (slice_set pending s (Some p)) records
-  acts_begun s p job free idle is room from seen none makes =
-      let t : Transition S = record { event = event_of s job; answer = Begun; before = moment_of w n; behind = moment_of v n } in
+  pub acts_begun : (s : ℕ) (p : PendingCall) → has_call w.slots s ≡ false → slice_get pending s ≡ Some None → p.from ≡ (g.state w.store).acts → p.seen ≡ n → p.given ≡ []
+      → EventEffect g (kind_of (event_of s p.asked)) Begun w v → HasActed g handed v (slice_set pending s (Some p)) records
+  acts_begun s p free idle from seen none makes =
+      let t : Transition S = record { event = event_of s p.asked; answer = Begun; before = moment_of w n; behind = moment_of v n } in
       let us : List (Transition S) = t ∷ [] in
       let mine : owned_by (OfSession s) (a.owners ++ owners_for (OfSession s) us) (a.transitions ++ us) ≡ us =
       owned_own (OfSession s) a.owners a.transitions us a.long ∙ ap (λ (l : List (Transition S)). l ++ us) (owned_nobody (OfSession s) a.owners a.transitions (none_idle s idle)) in
-      let own : AreOfPending g jobs s p us = record {
-        job = job;
-        job_is = is;
-        room = room;
+      let own : AreOfPending g s p us = record {
+        most = nothing_within p.asked p.given none;
         runs = record { first = t; more = []; are = refl; begun = record { event_is = refl; answer_is = refl; seen_is = sym seen; from_is = sym from; free = free }; unrecorded = refl; on = tt; given_is = none };
       } in
       record {
@@ -96,31 +89,29 @@ module _ {S : Type 0} (g : Ghosts S) (handed : Handed) (jobs : List Job) (w v : 
         path = path_more us n (refl, makes, refl);
         long = long_more (OfSession s) us;
         known = all_both _ a.owners (owners_for (OfSession s) us) (all_so (IsKnown pending records) _ a.owners (known_runs s p None idle) a.known) ((p, set_here pending s None (Some p) idle), tt);
-        recorded = λ place r at. subst (AreOfRecord g jobs place r) (sym (owned_else (OfRecord place) (OfSession s) a.owners a.transitions us a.long refl)) (a.recorded place r at);
+        recorded = λ place r at. subst (AreOfRecord g place r) (sym (owned_else (OfRecord place) (OfSession s) a.owners a.transitions us a.long refl)) (a.recorded place r at);
         running = λ u q at. ⊎_elim
             (λ (x : (u ≡ s) × (Some p ≡ Some q)).
-            subst (λ (y : ℕ × Pending). AreOfPending g jobs y.0 y.1 (owned_by (OfSession y.0) (a.owners ++ owners_for (OfSession s) us) (a.transitions ++ us))) (λ i. (sym x.0 i, some_same x.1 i))
-            (subst (AreOfPending g jobs s p) (sym mine) own))
+            subst (λ (y : ℕ × PendingCall). AreOfPending g y.0 y.1 (owned_by (OfSession y.0) (a.owners ++ owners_for (OfSession s) us) (a.transitions ++ us))) (λ i. (sym x.0 i, some_same x.1 i))
+            (subst (AreOfPending g s p) (sym mine) own))
             (λ (x : (u ≢ s) × (slice_get pending u ≡ Some (Some q))).
-            subst (AreOfPending g jobs u q) (sym (owned_else (OfSession u) (OfSession s) a.owners a.transitions us a.long (other_test u s x.0))) (a.running u q x.1))
+            subst (AreOfPending g u q) (sym (owned_else (OfSession u) (OfSession s) a.owners a.transitions us a.long (other_test u s x.0))) (a.running u q x.1))
             (set_cases pending s u (Some p) (Some q) at);
       }
 
   -- a job is done by one event, or refused as it begins
-  pub acts_at_once : (s : ℕ) (p : Pending) (job : Job) (answer : Answer) → has_call w.slots s ≡ false → slice_get jobs p.job ≡ Some job → p.from ≡ (g.state w.store).acts → p.seen ≡ n → p.given.items ≡ [] → (answer ≡ Begun → ⊥)
-      → (g.state v.store).acts ≡ p.from → EventEffect g (kind_of (event_of s job)) answer w v → HasActed g handed jobs v pending (records ++ record_of s p answer p.from ∷ [])
-  acts_at_once s p job answer free is from seen none never to makes =
-      let r = record_of s p answer p.from in
+  pub acts_at_once : (s : ℕ) (p : PendingCall) (answer : Answer) → has_call w.slots s ≡ false → p.from ≡ (g.state w.store).acts → p.seen ≡ n → p.given ≡ [] → (answer ≡ Begun → ⊥)
+      → (g.state v.store).acts ≡ p.from → EventEffect g (kind_of (event_of s p.asked)) answer w v → HasActed g handed v pending (records ++ completed_of s p answer p.from ∷ [])
+  acts_at_once s p answer free from seen none never to makes =
+      let r = completed_of s p answer p.from in
       let m = length (records ++ r ∷ []) in
       let longer = length-append records (r ∷ []) in
-      let t : Transition S = record { event = event_of s job; answer = answer; before = moment_of w n; behind = moment_of v m } in
+      let t : Transition S = record { event = event_of s p.asked; answer = answer; before = moment_of w n; behind = moment_of v m } in
       let us : List (Transition S) = t ∷ [] in
       let mine : owned_by (OfRecord n) (a.owners ++ owners_for (OfRecord n) us) (a.transitions ++ us) ≡ us =
       owned_own (OfRecord n) a.owners a.transitions us a.long ∙ ap (λ (l : List (Transition S)). l ++ us) (owned_nobody (OfRecord n) a.owners a.transitions none_next) in
-      let own : AreOfRecord g jobs n r us = record {
-        job = job;
-        job_is = is;
-        most = nothing_within job p.given.items none;
+      let own : AreOfRecord g n r us = record {
+        most = nothing_within p.asked p.given none;
         done = inl (record {
           one = t;
           are = refl;
@@ -140,31 +131,29 @@ module _ {S : Type 0} (g : Ghosts S) (handed : Handed) (jobs : List Job) (w v : 
         long = long_more (OfRecord n) us;
         known = all_both _ a.owners (owners_for (OfRecord n) us) (all_so (IsKnown pending records) _ a.owners (known_longer m (omega (arith, longer))) a.known) (omega (arith, longer), tt);
         recorded = λ place q at. ⊎_elim
-            (λ (x : (place < n) × (slice_get records place ≡ Some q)). subst (AreOfRecord g jobs place q)
+            (λ (x : (place < n) × (slice_get records place ≡ Some q)). subst (AreOfRecord g place q)
             (sym (owned_else (OfRecord place) (OfRecord n) a.owners a.transitions us a.long (other_test place n (λ e. omega (arith, e, x.0))))) (a.recorded place q x.1))
             (λ (x : (place ≡ n) × (r ≡ q)).
-            subst (λ (y : ℕ × Record). AreOfRecord g jobs y.0 y.1 (owned_by (OfRecord y.0) (a.owners ++ owners_for (OfRecord n) us) (a.transitions ++ us))) (λ i. (sym x.0 i, x.1 i))
-            (subst (AreOfRecord g jobs n r) (sym mine) own))
+            subst (λ (y : ℕ × CompletedCall). AreOfRecord g y.0 y.1 (owned_by (OfRecord y.0) (a.owners ++ owners_for (OfRecord n) us) (a.transitions ++ us))) (λ i. (sym x.0 i, x.1 i))
+            (subst (AreOfRecord g n r) (sym mine) own))
             (get_snoc records r q place at);
-        running = λ u q at. subst (AreOfPending g jobs u q) (sym (owned_else (OfSession u) (OfRecord n) a.owners a.transitions us a.long refl)) (a.running u q at);
+        running = λ u q at. subst (AreOfPending g u q) (sym (owned_else (OfSession u) (OfRecord n) a.owners a.transitions us a.long refl)) (a.running u q at);
       }
     where
-      known_longer : (k : ℕ) → n ≤ k → (x : Owner) → IsKnown pending records x → IsKnown pending (records ++ record_of s p answer p.from ∷ []) x
-      known_longer k l (OfRecord place) h = (let longer = length-append records (record_of s p answer p.from ∷ []) in omega (arith, h, longer))
+      known_longer : (k : ℕ) → n ≤ k → (x : Owner) → IsKnown pending records x → IsKnown pending (records ++ completed_of s p answer p.from ∷ []) x
+      known_longer k l (OfRecord place) h = (let longer = length-append records (completed_of s p answer p.from ∷ []) in omega (arith, h, longer))
       known_longer k l (OfSession t) h = h
 
   -- a running job goes on
-  pub acts_on : (s : ℕ) (p q : Pending) → slice_get pending s ≡ Some (Some p) → (us : List (Transition S)) → AllByRecursion (KeepsRunning g s) us → IsPath g (moment_of w n) us (moment_of v n)
-      → q.job ≡ p.job → q.from ≡ p.from → q.seen ≡ p.seen → vec_capacity q.given ≡ vec_capacity p.given → q.given.items ≡ p.given.items ++ gifts_of us
-      → HasActed g handed jobs v (slice_set pending s (Some q)) records
-  acts_on s p q at us on path job from seen room given =
+  pub acts_on : (s : ℕ) (p q : PendingCall) → slice_get pending s ≡ Some (Some p) → (us : List (Transition S)) → AllByRecursion (KeepsRunning g s) us → IsPath g (moment_of w n) us (moment_of v n)
+      → q.asked ≡ p.asked → q.from ≡ p.from → q.seen ≡ p.seen → IsWithinRoom q.asked q.given → q.given ≡ p.given ++ gifts_of us
+      → HasActed g handed v (slice_set pending s (Some q)) records
+  acts_on s p q at us on path asked from seen most given =
       let was = a.running s p at in
-      let own : AreOfPending g jobs s q (owned_by (OfSession s) a.owners a.transitions ++ us) = record {
-        job = was.job;
-        job_is = ap (slice_get jobs) job ∙ was.job_is;
-        room = subst (IsRoomOf was.job) (sym room) was.room;
-        runs = subst (λ (x : ℕ × ℕ × List Entry). AreOfRunning g s was.job x.0 x.1 x.2 (owned_by (OfSession s) a.owners a.transitions ++ us)) (λ i. (sym seen i, sym from i, sym given i))
-            (running_more g s was.job p.seen p.from p.given.items (owned_by (OfSession s) a.owners a.transitions) us on was.runs);
+      let own : AreOfPending g s q (owned_by (OfSession s) a.owners a.transitions ++ us) = record {
+        most = most;
+        runs = subst (λ (x : Job × ℕ × ℕ × List Entry). AreOfRunning g s x.0 x.1 x.2 x.3 (owned_by (OfSession s) a.owners a.transitions ++ us)) (λ i. (sym asked i, sym seen i, sym from i, sym given i))
+            (running_more g s p.asked p.seen p.from p.given (owned_by (OfSession s) a.owners a.transitions) us on was.runs);
       } in
       record {
         first = a.first;
@@ -176,24 +165,24 @@ module _ {S : Type 0} (g : Ghosts S) (handed : Handed) (jobs : List Job) (w v : 
         long = long_more (OfSession s) us;
         known = all_both _ a.owners (owners_for (OfSession s) us) (all_so (IsKnown pending records) _ a.owners (known_runs s q (Some p) at) a.known)
             (all_for (IsKnown (slice_set pending s (Some q)) records) (OfSession s) us (q, set_here pending s (Some p) (Some q) at));
-        recorded = λ place r h. subst (AreOfRecord g jobs place r) (sym (owned_else (OfRecord place) (OfSession s) a.owners a.transitions us a.long refl)) (a.recorded place r h);
+        recorded = λ place r h. subst (AreOfRecord g place r) (sym (owned_else (OfRecord place) (OfSession s) a.owners a.transitions us a.long refl)) (a.recorded place r h);
         running = λ u x h. ⊎_elim
             (λ (y : (u ≡ s) × (Some q ≡ Some x)).
-            subst (λ (z : ℕ × Pending). AreOfPending g jobs z.0 z.1 (owned_by (OfSession z.0) (a.owners ++ owners_for (OfSession s) us) (a.transitions ++ us))) (λ i. (sym y.0 i, some_same y.1 i))
-            (subst (AreOfPending g jobs s q) (sym (owned_own (OfSession s) a.owners a.transitions us a.long)) own))
+            subst (λ (z : ℕ × PendingCall). AreOfPending g z.0 z.1 (owned_by (OfSession z.0) (a.owners ++ owners_for (OfSession s) us) (a.transitions ++ us))) (λ i. (sym y.0 i, some_same y.1 i))
+            (subst (AreOfPending g s q) (sym (owned_own (OfSession s) a.owners a.transitions us a.long)) own))
             (λ (y : (u ≢ s) × (slice_get pending u ≡ Some (Some x))).
-            subst (AreOfPending g jobs u x) (sym (owned_else (OfSession u) (OfSession s) a.owners a.transitions us a.long (other_test u s y.0))) (a.running u x y.1))
+            subst (AreOfPending g u x) (sym (owned_else (OfSession u) (OfSession s) a.owners a.transitions us a.long (other_test u s y.0))) (a.running u x y.1))
             (set_cases pending s u (Some q) (Some x) h);
       }
 
   -- a running job ends
-  pub acts_ended : (s : ℕ) (p : Pending) (at : slice_get pending s ≡ Some (Some p)) (answer : Answer) (to : ℕ) → (more last : List (Transition S))
+  pub acts_ended : (s : ℕ) (p : PendingCall) (at : slice_get pending s ≡ Some (Some p)) (answer : Answer) (to : ℕ) → (more last : List (Transition S))
       → AllByRecursion (KeepsRunning g s) more → gifts_of more ≡ []
-      → IsPath g (moment_of w n) (more ++ last) (moment_of v (length (records ++ record_of s p answer to ∷ []))) → EndsCall g (a.running s p at).job n (record_of s p answer to) last
-      → HasActed g handed jobs v (slice_set pending s None) (records ++ record_of s p answer to ∷ [])
+      → IsPath g (moment_of w n) (more ++ last) (moment_of v (length (records ++ completed_of s p answer to ∷ []))) → EndsCall g n (completed_of s p answer to) last
+      → HasActed g handed v (slice_set pending s None) (records ++ completed_of s p answer to ∷ [])
   acts_ended s p at answer to more last on none path ends =
       let was = a.running s p at in
-      let r = record_of s p answer to in
+      let r = completed_of s p answer to in
       let us = more ++ last in
       let ran = owned_by (OfSession s) a.owners a.transitions in
       let owners = a.owners ++ owners_for (OfSession s) us in
@@ -203,16 +192,14 @@ module _ {S : Type 0} (g : Ghosts S) (handed : Handed) (jobs : List Job) (w v : 
       let known : AllByRecursion (IsKnown pending records) owners = all_both _ a.owners (owners_for (OfSession s) us) a.known (all_for (IsKnown pending records) (OfSession s) us (p, at)) in
       let mine : owned_by (OfRecord n) (map (handed_over s n) owners) ts ≡ ran ++ us =
       owned_by_record s n owners ts (all_so (IsKnown pending records) _ owners apart_next known) ∙ owned_own (OfSession s) a.owners a.transitions us a.long in
-      let given : p.given.items ++ gifts_of more ≡ p.given.items = ap (λ (l : List Entry). p.given.items ++ l) none ∙ append-nil p.given.items in
-      let own : AreOfRecord g jobs n r (ran ++ us) = record {
-        job = was.job;
-        job_is = was.job_is;
-        most = within_its_room was.job p was.room;
+      let given : p.given ++ gifts_of more ≡ p.given = ap (λ (l : List Entry). p.given ++ l) none ∙ append-nil p.given in
+      let own : AreOfRecord g n r (ran ++ us) = record {
+        most = was.most;
         done = inr (record {
           ran = ran ++ more;
           last = last;
           are = sym (append_assoc ran more last);
-          runs = subst (λ (l : List Entry). AreOfRunning g s was.job p.seen p.from l (ran ++ more)) given (running_more g s was.job p.seen p.from p.given.items ran more on was.runs);
+          runs = subst (λ (l : List Entry). AreOfRunning g s p.asked p.seen p.from l (ran ++ more)) given (running_more g s p.asked p.seen p.from p.given ran more on was.runs);
           ends = ends;
         });
       } in
@@ -226,31 +213,31 @@ module _ {S : Type 0} (g : Ghosts S) (handed : Handed) (jobs : List Job) (w v : 
         long = mapped ∙ long;
         known = all_mapped (IsKnown pending records) (IsKnown (slice_set pending s None) (records ++ r ∷ [])) (handed_over s n) owners known_over known;
         recorded = λ place q h. ⊎_elim
-            (λ (x : (place < n) × (slice_get records place ≡ Some q)). subst (AreOfRecord g jobs place q)
+            (λ (x : (place < n) × (slice_get records place ≡ Some q)). subst (AreOfRecord g place q)
             (sym (owned_by_other_record s n owners ts place (λ e. omega (arith, e, x.0)) ∙ owned_else (OfRecord place) (OfSession s) a.owners a.transitions us a.long refl)) (a.recorded place q x.1))
             (λ (x : (place ≡ n) × (r ≡ q)).
-            subst (λ (y : ℕ × Record). AreOfRecord g jobs y.0 y.1 (owned_by (OfRecord y.0) (map (handed_over s n) owners) ts))
-            (λ i. (sym x.0 i, x.1 i)) (subst (AreOfRecord g jobs n r) (sym mine) own))
+            subst (λ (y : ℕ × CompletedCall). AreOfRecord g y.0 y.1 (owned_by (OfRecord y.0) (map (handed_over s n) owners) ts))
+            (λ i. (sym x.0 i, x.1 i)) (subst (AreOfRecord g n r) (sym mine) own))
             (get_snoc records r q place h);
         running = λ u x h. ⊎_elim
             (λ (y : (u ≡ s) × (None ≡ Some x)). absurd (let e = y.1 in cc))
-            (λ (y : (u ≢ s) × (slice_get pending u ≡ Some (Some x))). subst (AreOfPending g jobs u x)
+            (λ (y : (u ≢ s) × (slice_get pending u ≡ Some (Some x))). subst (AreOfPending g u x)
             (sym (owned_by_other_session s n owners ts u y.0 ∙ owned_else (OfSession u) (OfSession s) a.owners a.transitions us a.long (other_test u s y.0))) (a.running u x y.1))
             (set_cases pending s u None (Some x) h);
       }
     where
-      known_over : (x : Owner) → IsKnown pending records x → IsKnown (slice_set pending s None) (records ++ record_of s p answer to ∷ []) (handed_over s n x)
-      known_over (OfRecord place) h = (let longer = length-append records (record_of s p answer to ∷ []) in omega (arith, h, longer))
+      known_over : (x : Owner) → IsKnown pending records x → IsKnown (slice_set pending s None) (records ++ completed_of s p answer to ∷ []) (handed_over s n x)
+      known_over (OfRecord place) h = (let longer = length-append records (completed_of s p answer to ∷ []) in omega (arith, h, longer))
       known_over (OfSession t) h = by (s == t) refl
         where
-          by : (b : Bool) → (s == t) ≡ b → IsKnown (slice_set pending s None) (records ++ record_of s p answer to ∷ []) (if b then OfRecord n else OfSession t)
-          by true e = (let longer = length-append records (record_of s p answer to ∷ []) in omega (arith, longer))
+          by : (b : Bool) → (s == t) ≡ b → IsKnown (slice_set pending s None) (records ++ completed_of s p answer to ∷ []) (if b then OfRecord n else OfSession t)
+          by true e = (let longer = length-append records (completed_of s p answer to ∷ []) in omega (arith, longer))
           by false e = (h.0, set_else pending s t None (λ same. clash (s == t) (same_test s t (sym same)) e) ∙ h.1)
 
 -- a run begins with the world as it was handed in
-pub acts_first : {S : Type 0} (g : Ghosts S) (handed : Handed) (jobs : List Job) (w : StoreAndSlots S) (pending : List (Option Pending)) → IsAsHanded g handed w
-    → ((s : ℕ) (p : Pending) → slice_get pending s ≡ Some (Some p) → ⊥) → HasActed g handed jobs w pending []
-acts_first g handed jobs w pending was none = record {
+pub acts_first : {S : Type 0} (g : Ghosts S) (handed : Handed) (w : StoreAndSlots S) (pending : List (Option PendingCall)) → IsAsHanded g handed w
+    → ((s : ℕ) (p : PendingCall) → slice_get pending s ≡ Some (Some p) → ⊥) → HasActed g handed w pending []
+acts_first g handed w pending was none = record {
   first = moment_of w 0;
   transitions = [];
   owners = [];
@@ -264,10 +251,10 @@ acts_first g handed jobs w pending was none = record {
 }
 
 -- if no job runs, each transition is of a record
-pub acts_all_done : {S : Type 0} (g : Ghosts S) (handed : Handed) (jobs : List Job) (w : StoreAndSlots S) (pending : List (Option Pending))
-    (records : List Record) → ((s : ℕ) (p : Pending) → slice_get pending s ≡ Some (Some p) → ⊥)
-    → HasActed g handed jobs w pending records → HasActed g handed jobs w [] records
-acts_all_done g handed jobs w pending records none a = record {
+pub acts_all_done : {S : Type 0} (g : Ghosts S) (handed : Handed) (w : StoreAndSlots S) (pending : List (Option PendingCall))
+    (records : List CompletedCall) → ((s : ℕ) (p : PendingCall) → slice_get pending s ≡ Some (Some p) → ⊥)
+    → HasActed g handed w pending records → HasActed g handed w [] records
+acts_all_done g handed w pending records none a = record {
   first = a.first;
   transitions = a.transitions;
   owners = a.owners;

@@ -1,16 +1,16 @@
 -- What the beginning of a job under the lock leaves of what is kept.
-use Rattle.std.proofs.Common.{◌≡◌, ◌⊎◌, Bool, true, false, ℕ, suc, ◌<◌, ◌≤◌, List, [], ◌∷◌, ◌++◌, length, Option, Some, None, slice_get, slice_set, vec_len, vec_capacity, refl, sym, ap, ◌∙◌, subst, inl, inr, arith}
+use Rattle.std.proofs.Common.{◌≡◌, ◌⊎◌, Bool, true, false, ℕ, suc, ◌<◌, ◌≤◌, List, [], ◌∷◌, ◌++◌, length, Option, Some, None, slice_get, slice_set, refl, sym, ap, ◌∙◌, subst, inl, inr, arith, length-set}
 use Rattle.session_calls.specs.declared.request.Request.TheVariants.{Insert as ToInsert, Scan as ToScan, Bulk as ToBulk, Cleanup as ToCleanup}
 use Rattle.whole_calls.specs.Meanings.{IsSameHistory, HasBegun, NothingIsDone, BeginMeans, begun_of}
-use Rattle.shared_world.specs.declared.job.Job.TheVariants.{Insert, Scan, Bulk, Cleanup, Commit, Checkpoint}
-use Rattle.shared_world.proofs.Imports.{HasCause, Entry, SetGhosts, Fault, Blocked, Ghosts, IsCaused, DeadSets, asked_by, has_call, one_vacuums, slot_has_call, Answer, Begun, Forced, Checkpointed}
+use Rattle.session_seats.specs.declared.job.Job.TheVariants.{Insert, Scan, Bulk, Cleanup, Commit, Checkpoint}
+use Rattle.shared_world.proofs.Imports.{HasCause, Entry, SetGhosts, Fault, Blocked, Ghosts, IsCaused, DeadSets, asked_by, has_call, one_vacuums, slot_has_call, Answer, Begun, Ended, Forced, Checkpointed}
 use Rattle.shared_world.proofs.Imports.{Refused, Op, Request, RefusedCallsFit, AnswersEvent, AnswersBeginning, EventAlways, UpkeepIsDone, Stays, kept_answer, causes_of_begun_at, EventDoes}
 use Rattle.shared_world.proofs.Imports.{EventEffect, KeepsHistory, Upkeep, Forces, Flushes, Checkpoints, Kind, BeginsCall, MaintainsStore, kind_of, StoreAndSlots, Moment, snapshot_of, ForEachHistory}
-use Rattle.shared_world.proofs.Imports.{EventFollows, Fits, Event, goes_does, begins_told, keeps_silent, LedgerGhosts, RunGhosts, get_within, inside, World, JobGhosts, StoreJobGhosts, Shared, Job, Pending, event_of, request_of}
-use Rattle.shared_world.proofs.Imports.{upkeep_of, begins, IsRoomOf, IsBlocked, KeepsFitting, record_of}
+use Rattle.shared_world.proofs.Imports.{EventFollows, Fits, Event, goes_does, begins_told, keeps_silent, get_within, inside, World, OriginGhosts, OriginOnGhosts, GroupGhosts, Live, Job, PendingCall, event_of, request_of}
+use Rattle.shared_world.proofs.Imports.{upkeep_of, begins, IsBlocked, KeepsFitting, completed_of}
 use Rattle.shared_world.proofs.Noting.{set_same, busy_is, OthersRunOn, rests_there, matches_runs, matches_stays}
 use Rattle.shared_world.proofs.Handing.{IsNext}
-use Rattle.shared_world.proofs.Sharing.{KeepsWith, CarriesOn}
+use Rattle.shared_world.proofs.Sharing.{pending_in, log_in, KeepsWith, CarriesOn}
 use Rattle.shared_world.proofs.Acting.{acts_begun, acts_at_once}
 use Rattle.shared_world.proofs.Transiting.{makes_of}
 use Rattle.shared_world.proofs.Happening.{keeps_begun, keeps_refused, keeps_upkept}
@@ -75,31 +75,27 @@ kept_of g Checkpoints answer x y (inr h) count e = absurd (checkpointed_not coun
 kept_of g Flushes answer x y h count e = absurd cc
 
 -- a beginning under the lock, and what it leaves there
-module _ {S T J : Type 0} {g : Ghosts S} {rows : SetGhosts T} {past : StoreJobGhosts J S} {j : JobGhosts J} {run : RunGhosts J} {ledger : LedgerGhosts J} (self : Shared S T J g rows past j run ledger) (world : World S T)
-    (next : IsNext g (inside rows self.world) (inside rows world)) (s : ℕ) (p : Pending) (idle : slice_get self.pending.items s ≡ Some None) (job : Job)
-    (is : slice_get j.jobs p.job ≡ Some job) (event : Event) (event_is : event ≡ event_of s job) (answer : Answer)
+module _ {S T J : Type 0} {g : Ghosts S} {rows : SetGhosts T} {past : OriginOnGhosts J S} {j : OriginGhosts J} {group : GroupGhosts J} (self : Live S T J g rows past j group) (world : World S T)
+    (next : IsNext g (inside rows self.world) (inside rows world)) (s : ℕ) (p : PendingCall) (idle : slice_get (pending_in self) s ≡ Some None)
+    (event : Event) (event_is : event ≡ event_of s p.asked) (answer : Answer)
     (goes : ForEachHistory g (inside rows self.world) (inside rows world) (EventFollows g (inside rows self.world) (inside rows world) event answer))
-    (sure : EventAlways g (kind_of event) answer (inside rows self.world) (inside rows world)) (from : p.from ≡ (g.state self.world.store).acts) (seen_is : p.seen ≡ vec_len self.history)
-    (given : p.given.items ≡ []) (room : IsRoomOf job (vec_capacity p.given)) where
+    (sure : EventAlways g (kind_of event) answer (inside rows self.world) (inside rows world)) (from : p.from ≡ (g.state self.world.store).acts) (seen : p.seen ≡ length (log_in self))
+    (given : p.given ≡ []) where
   abbrev w : StoreAndSlots S
   w = inside rows self.world
 
   abbrev v : StoreAndSlots S
   v = inside rows world
 
-  -- so many records there were
-  seen : p.seen ≡ length self.history.items
-  seen = seen_is ∙ self.history.ok.0
-
   -- its session runs nothing
   free : has_call w.slots s ≡ false
-  free = rests_there w.slots self.pending.items s self.matches idle
+  free = rests_there w.slots (pending_in self) s self.matches idle
 
   -- the event is the job's, and so is what holds of it whatever the pages are
-  kind : kind_of event ≡ begins s job
+  kind : kind_of event ≡ begins s p.asked
   kind = ap kind_of event_is
 
-  always : EventAlways g (begins s job) answer w v
+  always : EventAlways g (begins s p.asked) answer w v
   always = subst (λ (kd : Kind). EventAlways g kd answer w v) kind sure
 
   -- what it makes of the world
@@ -107,10 +103,10 @@ module _ {S T J : Type 0} {g : Ghosts S} {rows : SetGhosts T} {past : StoreJobGh
   makes = makes_of g event answer w v next.sessions goes sure
 
   -- its call has begun
-  begin_keeps_begun : answer ≡ Begun → KeepsWith self w self.pending.items self.history.items → KeepsWith self v (slice_set self.pending.items s (Some p)) self.history.items
-  begin_keeps_begun told all honest contents acts calls so = by (asks_one s job)
+  begin_keeps_begun : answer ≡ Begun → KeepsWith self w (pending_in self) (log_in self) → KeepsWith self v (slice_set (pending_in self) s (Some p)) (log_in self)
+  begin_keeps_begun told all honest contents acts calls so = by (asks_one s p.asked)
     where
-      by : AsksCall s job ⊎ AsksStore s job → KeepsFitting g j.jobs contents acts calls (j.kept_then contents acts calls) v self.start (slice_set self.pending.items s (Some p)) self.history.items
+      by : AsksCall s p.asked ⊎ AsksStore s p.asked → KeepsFitting g contents acts calls (j.kept_then contents acts calls) v self.start (slice_set (pending_in self) s (Some p)) (log_in self)
       by (inl a) =
           let k = all (next.later.honest honest) contents acts calls so in
           let r = goes honest contents k.history k.calls k.fit in
@@ -118,22 +114,22 @@ module _ {S T J : Type 0} {g : Ghosts S} {rows : SetGhosts T} {past : StoreJobGh
           let new = snapshot_of v r.then_history r.then_calls in
           let does = subst (λ (kd : Kind). EventDoes g contents kd answer was new) (kind ∙ a.kind) (goes_does r.goes) in
           let b : HasBegun s a.request was new = subst (λ (x : Answer). BeginMeans s a.request (begun_of x) was new) told (begins_told g contents s a.request answer was new does) in
-          keeps_begun g j.jobs contents acts calls (j.kept_then contents acts calls) w v next.sets self.start self.pending.items self.history.items k next.later.durable s p job a.request idle
-          is a.asks (from ∙ k.fit.explains.count) seen given room
+          keeps_begun g contents acts calls (j.kept_then contents acts calls) w v next.sets self.start (pending_in self) (log_in self) k next.later.durable s p a.request idle
+          a.asks (from ∙ k.fit.explains.count) seen given
           (subst (λ (m : Moment S). Fits g contents m) (λ i. snapshot_of v (b.history_is i) (b.calls_is i)) r.fits)
           (λ h. subst (λ (m : Moment S). KeepsHistory g contents m) (λ i. snapshot_of v (b.history_is i) (b.calls_is i)) (r.goes.crash h).keeps)
       by (inr a) = absurd (upkeep_not_begun a.upkeep w.slots v.slots
           (subst (λ (x : Answer). AnswersEvent (MaintainsStore a.upkeep) x w.slots v.slots) told (subst (λ (kd : Kind). AnswersEvent kd answer w.slots v.slots) a.kind always.answers)))
 
   -- it is refused as it begins, or is done whole
-  begin_keeps_done : RefusedCallsFit g → (answer ≡ Begun → ⊥) → s < length v.slots → KeepsWith self w self.pending.items self.history.items
-      → KeepsWith self v self.pending.items (self.history.items ++ record_of s p answer p.from ∷ [])
+  begin_keeps_done : RefusedCallsFit g → (answer ≡ Begun → ⊥) → s < length v.slots → KeepsWith self w (pending_in self) (log_in self)
+      → KeepsWith self v (pending_in self) ((log_in self) ++ completed_of s p answer p.from ∷ [])
   begin_keeps_done law never within all honest contents acts calls so =
-      subst (λ l. KeepsFitting g j.jobs contents acts calls (j.kept_then contents acts calls) v self.start l (self.history.items ++ record_of s p answer p.from ∷ []))
-      (set_same self.pending.items s None idle) (by (asks_one s job))
+      subst (λ l. KeepsFitting g contents acts calls (j.kept_then contents acts calls) v self.start l ((log_in self) ++ completed_of s p answer p.from ∷ []))
+      (set_same (pending_in self) s None idle) (by (asks_one s p.asked))
     where
-      by : AsksCall s job ⊎ AsksStore s job
-          → KeepsFitting g j.jobs contents acts calls (j.kept_then contents acts calls) v self.start (slice_set self.pending.items s None) (self.history.items ++ record_of s p answer p.from ∷ [])
+      by : AsksCall s p.asked ⊎ AsksStore s p.asked
+          → KeepsFitting g contents acts calls (j.kept_then contents acts calls) v self.start (slice_set (pending_in self) s None) ((log_in self) ++ completed_of s p answer p.from ∷ [])
       by (inl a) =
           let k = all (next.later.honest honest) contents acts calls so in
           let r = goes honest contents k.history k.calls k.fit in
@@ -146,9 +142,9 @@ module _ {S T J : Type 0} {g : Ghosts S} {rows : SetGhosts T} {past : StoreJobGh
           let keeps = λ (h : KeepsHistory g contents was).
           subst (λ (m : Moment S). KeepsHistory g contents m) (λ i. snapshot_of v (t.silent.history_is i) (t.silent.calls_is i)) (r.goes.crash h).keeps in
           subst (λ (x : Answer).
-          KeepsFitting g j.jobs contents acts calls (j.kept_then contents acts calls) v self.start (slice_set self.pending.items s None) (self.history.items ++ record_of s p x p.from ∷ [])) (sym f.1)
-          (keeps_refused g j.jobs contents acts calls (j.kept_then contents acts calls) w v next.sets self.start self.pending.items self.history.items k next.later.durable s p job a.request
-          f.0 idle is a.asks (from ∙ k.fit.explains.count) seen given
+          KeepsFitting g contents acts calls (j.kept_then contents acts calls) v self.start (slice_set (pending_in self) s None) ((log_in self) ++ completed_of s p x p.from ∷ [])) (sym f.1)
+          (keeps_refused g contents acts calls (j.kept_then contents acts calls) w v next.sets self.start (pending_in self) (log_in self) k next.later.durable s p a.request
+          f.0 idle a.asks (from ∙ k.fit.explains.count) seen given
           (begins_settled g w.store (one_vacuums w.slots) w.sets a.request (slice_get w.slots s) f.0
           (subst (λ (x : Answer). IsCaused (causes_of_begun_at g w.store (one_vacuums w.slots) w.sets a.request (slice_get w.slots s)) x) f.1
           (subst (λ (kd : Kind). EventAlways g kd answer w v) a.kind always).causes))
@@ -162,8 +158,8 @@ module _ {S T J : Type 0} {g : Ghosts S} {rows : SetGhosts T} {past : StoreJobGh
           let does = subst (λ (kd : Kind). EventDoes g contents kd answer was new) (kind ∙ a.kind) (goes_does r.goes) in
           let silent : IsSameHistory was new = keeps_silent g contents a.upkeep answer was new does in
           let since : p.from ≡ length k.history = from ∙ k.fit.explains.count in
-          keeps_upkept g j.jobs contents acts calls (j.kept_then contents acts calls) w v next.sets self.start self.pending.items self.history.items k next.later.durable s p job a.upkeep
-          answer idle is a.asks since seen (ap (λ (l : List Entry). length l) given)
+          keeps_upkept g contents acts calls (j.kept_then contents acts calls) w v next.sets self.start (pending_in self) (log_in self) k next.later.durable s p a.upkeep
+          answer idle a.asks since seen (ap (λ (l : List Entry). length l) given)
           (subst (λ (kd : Kind). AnswersEvent kd answer w.slots v.slots) a.kind always.answers)
           (λ count e. (let n = kept_of g a.upkeep answer was new does.also.happens count e in (n.0 ∙ sym since, n.1)))
           (subst (λ (m : Moment S). Fits g contents m) (λ i. snapshot_of v (silent.history_is i) (silent.calls_is i)) r.fits)
@@ -171,9 +167,9 @@ module _ {S T J : Type 0} {g : Ghosts S} {rows : SetGhosts T} {past : StoreJobGh
 
   -- what the sessions run: its own has begun a call
   begin_runs : answer ≡ Begun → (has_call v.slots s ≡ true) × OthersRunOn w.slots v.slots s
-  begin_runs told = by (asks_one s job)
+  begin_runs told = by (asks_one s p.asked)
     where
-      by : AsksCall s job ⊎ AsksStore s job → (has_call v.slots s ≡ true) × OthersRunOn w.slots v.slots s
+      by : AsksCall s p.asked ⊎ AsksStore s p.asked → (has_call v.slots s ≡ true) × OthersRunOn w.slots v.slots s
       by (inl a) =
           let m = subst (λ (kd : Kind). EventAlways g kd answer w v) a.kind always in
           (sym (busy_is v.slots s) ∙ rw (m.fresh told) refl, (λ t n. ap slot_has_call (m.others s refl t n)))
@@ -182,9 +178,9 @@ module _ {S T J : Type 0} {g : Ghosts S} {rows : SetGhosts T} {past : StoreJobGh
 
   -- ... or all as before
   done_runs : (answer ≡ Begun → ⊥) → (t : ℕ) → has_call v.slots t ≡ has_call w.slots t
-  done_runs never t = by (asks_one s job)
+  done_runs never t = by (asks_one s p.asked)
     where
-      by : AsksCall s job ⊎ AsksStore s job → has_call v.slots t ≡ has_call w.slots t
+      by : AsksCall s p.asked ⊎ AsksStore s p.asked → has_call v.slots t ≡ has_call w.slots t
       by (inl a) =
           let m = subst (λ (kd : Kind). EventAlways g kd answer w v) a.kind always in
           let f = refused_of answer m.answers never in
@@ -195,32 +191,47 @@ module _ {S T J : Type 0} {g : Ghosts S} {rows : SetGhosts T} {past : StoreJobGh
 
   -- no action is logged
   begin_acts : (g.state v.store).acts ≡ (g.state w.store).acts
-  begin_acts = by (asks_one s job)
+  begin_acts = by (asks_one s p.asked)
     where
-      by : AsksCall s job ⊎ AsksStore s job → (g.state v.store).acts ≡ (g.state w.store).acts
+      by : AsksCall s p.asked ⊎ AsksStore s p.asked → (g.state v.store).acts ≡ (g.state w.store).acts
       by (inl a) = (subst (λ (kd : Kind). EventAlways g kd answer w v) a.kind always).calm
       by (inr a) = (subst (λ (kd : Kind). EventAlways g kd answer w v) a.kind always).calm
 
   -- after it the job runs
-  pub begun_leaves : answer ≡ Begun → CarriesOn self world (slice_set self.pending.items s (Some p)) self.history.items
+  pub begun_leaves : answer ≡ Begun → CarriesOn self world (slice_set (pending_in self) s (Some p)) (log_in self)
   begun_leaves told =
       let runs = begin_runs told in
       record {
         keeps = begin_keeps_begun told;
-        acts = λ a. acts_begun g j.handed j.jobs w v self.pending.items self.history.items a s p job free idle is room from seen given
+        acts = λ a. acts_begun g j.handed w v (pending_in self) (log_in self) a s p free idle from seen given
             (subst (λ (x : Event × Answer). EventEffect g (kind_of x.0) x.1 w v) (λ i. (event_is i, told i)) makes);
-        matches = matches_runs w.slots v.slots self.pending.items s p (get_within self.pending.items s None idle) runs.0 runs.1;
+        matches = matches_runs w.slots v.slots (pending_in self) s p (get_within (pending_in self) s None idle) runs.0 runs.1;
+        long = length-set (pending_in self) s (Some p);
         next = next;
       }
 
   -- ... or is recorded
-  pub done_leaves : RefusedCallsFit g → (answer ≡ Begun → ⊥) → CarriesOn self world self.pending.items (self.history.items ++ record_of s p answer p.from ∷ [])
+  pub done_leaves : RefusedCallsFit g → (answer ≡ Begun → ⊥) → CarriesOn self world (pending_in self) ((log_in self) ++ completed_of s p answer p.from ∷ [])
   done_leaves law never =
-      let inside_it = get_within self.pending.items s None idle in
+      let inside_it = get_within (pending_in self) s None idle in
       record {
-        keeps = begin_keeps_done law never (omega (arith, inside_it, self.pending.ok.0, self.seats, next.sessions));
-        acts = λ a. acts_at_once g j.handed j.jobs w v self.pending.items self.history.items a s p job answer free is from seen given never (begin_acts ∙ sym from)
+        keeps = begin_keeps_done law never (omega (arith, inside_it, self.seats, next.sessions));
+        acts = λ a. acts_at_once g j.handed w v (pending_in self) (log_in self) a s p answer free from seen given never (begin_acts ∙ sym from)
             (subst (λ (e : Event). EventEffect g (kind_of e) answer w v) event_is makes);
-        matches = matches_stays w.slots v.slots self.pending.items (done_runs never);
+        matches = matches_stays w.slots v.slots (pending_in self) (done_runs never);
+        long = refl;
         next = next;
       }
+
+-- no beginning answers that a call has ended
+pub begins_no_end : {S : Type 0} (g : Ghosts S) (s : ℕ) (job : Job) (answer : Answer) (w v : StoreAndSlots S) → EventAlways g (begins s job) answer w v → answer ≡ Ended → ⊥
+begins_no_end g s job answer w v always e = by (asks_one s job)
+  where
+    upkeep_no_end : (upkeep : Upkeep) → AnswersEvent (MaintainsStore upkeep) Ended w.slots v.slots → ⊥
+    upkeep_no_end Forces h = h
+    upkeep_no_end Flushes h = h
+    upkeep_no_end Checkpoints h = h
+
+    by : AsksCall s job ⊎ AsksStore s job → ⊥
+    by (inl a) = subst (λ (x : Answer). AnswersBeginning x) e (subst (λ (kd : Kind). AnswersEvent kd answer w.slots v.slots) a.kind always.answers)
+    by (inr a) = upkeep_no_end a.upkeep (subst (λ (x : Answer). AnswersEvent (MaintainsStore a.upkeep) x w.slots v.slots) e (subst (λ (kd : Kind). AnswersEvent kd answer w.slots v.slots) a.kind always.answers))

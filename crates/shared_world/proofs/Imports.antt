@@ -4,7 +4,6 @@ pub use Rattle.std.proofs.lemmas.Bool.Decides.{nat_tests}
 pub use Rattle.std.proofs.lemmas.List.{append-nil, length-map}
 pub use Rattle.std.proofs.lemmas.Option.{slice_get_read}
 pub use Rattle.std.specs.List.{AllByRecursion}
-pub use Rattle.std.specs.declared.sync.ledger.Ledger.{Ghosts as LedgerGhosts}
 pub use Rattle.index_model.proofs.Histories.{at_some_moment_later}
 pub use Rattle.index_model.specs.Actions.{Action, Effect, ThereAtSomeMoment}
 pub use Rattle.index_model.specs.Calls.{AskScan, Call, Running}
@@ -38,27 +37,47 @@ pub use Rattle.whole_calls.proofs.Tellings.{begins_told, keeps_silent, one_runs,
 pub use Rattle.whole_calls.specs.OneStep.{HasStepped, IsGivenUpFor, IsMadeAsStep, OneStepAlways, OneStepIsRun, cut_short}
 pub use Rattle.world.specs.Worlds.{SameSessions, inside}
 pub use Rattle.world.specs.declared.world.World.{World}
-pub use Rattle.worker_seats.proofs.Counting.{noted_within}
+pub use Rattle.shared_world.specs.Handed.{ComesOf, Handed, IsAsHanded, StillFollows}
+pub use Rattle.shared_world.specs.Transitions.{IsPath, LockMoment, OfRecord, OfSession, Owner, Transition, gifts_of, is_owner, owned_by}
+pub use Rattle.session_seats.specs.Calls.{gift_of}
+pub use Rattle.session_seats.specs.declared.job.Job.{Job}
+pub use Rattle.session_seats.specs.declared.job.Job.TheVariants.{Scan}
+pub use Rattle.shared_world.specs.Acted.{AreOfPending, AreOfRecord, AreOfRunning, EndsCall, HasActed, IsKnown, KeepsRunning, MayBeLeft}
+pub use Rattle.shared_world.specs.Doing.{IsEventDone, given_after}
+pub use Rattle.shared_world.specs.Jobs.{IsBelowRoom, IsWithinRoom, begins, event_of, request_of, upkeep_of}
+pub use Rattle.shared_world.specs.Kept.{CallFollows, HasEndedBy, IsBlocked, IsInTime, WasLeft, IsOurs, IsPending, IsSince, KeepsAll, KeepsFitting, Lists, ListsCall, ListsUpkeep, MatchesPending}
+pub use Rattle.shared_world.specs.Kept.{RunsCall, ending_by}
+pub use Rattle.shared_world.specs.Leaving.{HasRoomLeft, LeavesCall, call_in, is_begun}
+pub use Rattle.shared_world.specs.declared.live.Live.{Live}
+pub use Rattle.shared_world.specs.declared.origin.Origin.{Ghosts as OriginGhosts}
+pub use Rattle.shared_world.specs.declared.origin.OriginOn.{Ghosts as OriginOnGhosts}
+pub use Rattle.session_seats.specs.Calls.{completed_of, given_more}
+pub use Rattle.session_seats.specs.declared.call.CompletedCall.{CompletedCall}
+pub use Rattle.session_seats.specs.declared.call.PendingCall.{PendingCall}
+pub use Rattle.session_seats.specs.declared.group.SessionGroup.{Ghosts as GroupGhosts}
 pub use Rattle.worker_seats.proofs.Queueing.{nat_cases}
 pub use Rattle.worker_seats.proofs.Rows.{get_front, get_last, get_snoc, get_there, get_within, set_cases, set_else, set_here}
+pub use Rattle.std.proofs.lemmas.Option.{slice_get_read}
+pub use Rattle.std.specs.declared.sync.ledger.Ledger.{Ghosts as LedgerGhosts}
+pub use Rattle.worker_seats.proofs.Counting.{noted_within}
 pub use Rattle.worker_seats.specs.Queue.{below, jobs_in, sum_below, weigh}
 pub use Rattle.worker_seats.specs.Seats.{keeper_of, known_by, notes_by}
 pub use Rattle.worker_seats.specs.declared.run.Run.{Ghosts as RunGhosts}
 pub use Rattle.worker_seats.specs.declared.seating.SeatView.{SeatView}
-pub use Rattle.shared_world.specs.Acted.{AreOfPending, AreOfRecord, AreOfRunning, EndsCall, HasActed, IsKnown, KeepsRunning}
-pub use Rattle.shared_world.specs.Doing.{HasTaken, IsEventDone, IsFullScan, MayBeDone, given_after}
-pub use Rattle.shared_world.specs.Ended.{AreIdle, jobs_of_records}
-pub use Rattle.shared_world.specs.Handed.{ComesOf, Handed, IsAsHanded, StillFollows}
-pub use Rattle.shared_world.specs.Jobs.{IsRoomOf, IsWithinRoom, ScanIsFull, begins, event_of, request_of, upkeep_of}
-pub use Rattle.shared_world.specs.Kept.{HasEndedBy, IsBlocked, IsCut, IsInTime, IsOurs, IsPending, IsSince, KeepsAll, KeepsFitting, Lists, ListsCall, ListsUpkeep, MatchesPending, RecordFollows}
-pub use Rattle.shared_world.specs.Kept.{RunsJob, ending_by, record_of}
-pub use Rattle.shared_world.specs.Notes.{job_of, jobs_of, note_of, notes_of}
-pub use Rattle.shared_world.specs.Transitions.{IsPath, LockMoment, OfRecord, OfSession, Owner, Transition, gift_of, gifts_of, is_owner, owned_by}
-pub use Rattle.shared_world.specs.Turns.{HasNotedAt, TurnMeans, is_begun}
-pub use Rattle.shared_world.specs.declared.job.Job.{Job}
-pub use Rattle.shared_world.specs.declared.job.Job.TheVariants.{Scan}
+pub use Rattle.session_seats.specs.Calls.{empty_call}
+pub use Rattle.session_seats.specs.Seats.{keeper_with, view_of}
+pub use Rattle.session_seats.specs.declared.seat.SessionSeat.{SessionSeat}
+pub use Rattle.session_seats.specs.declared.seating.SessionView.{SessionView}
+pub use Rattle.shared_world.specs.Booked.{AreBooked}
+pub use Rattle.shared_world.specs.Doing.{HasTaken, IsFullScan, MayBeDone}
+pub use Rattle.shared_world.specs.Ended.{jobs_of_records}
+pub use Rattle.shared_world.specs.Jobs.{IsRoomOf, ScanIsFull}
+pub use Rattle.shared_world.specs.Leaving.{RunsItsCall}
+pub use Rattle.shared_world.specs.Notes.{completed_call, completed_calls, job_of, jobs_of, note_of, notes_of, pending_call, pending_call_of, pending_calls, record_of}
+pub use Rattle.shared_world.specs.Seated.{AreSeated, HoldsSeat, IsSeatAt}
+pub use Rattle.shared_world.specs.Standing.{AreIdle}
+pub use Rattle.shared_world.specs.Turns.{HasNotedAt, TurnMeans}
 pub use Rattle.shared_world.specs.declared.jobs.Jobs.{Ghosts as JobGhosts}
-pub use Rattle.shared_world.specs.declared.jobs.JobsOn.{Ghosts as StoreJobGhosts}
 pub use Rattle.shared_world.specs.declared.record.Pending.{Pending}
 pub use Rattle.shared_world.specs.declared.record.Record.{Record}
 pub use Rattle.shared_world.specs.declared.shared.Shared.{Shared}

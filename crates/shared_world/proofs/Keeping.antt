@@ -1,8 +1,8 @@
 -- What each event under the lock leaves of what is kept: an event of one session touches one call at most.
 use Rattle.std.proofs.Common.{◌≡◌, ◌≢◌, ◌⊎◌, Bool, ℕ, zero, suc, ◌<◌, ◌≤◌, List, [], ◌∷◌, ◌++◌, length, Option, Some, None, slice_get, slice_set, refl, sym, ap, ◌∙◌, subst, inl, inr, ⊎_elim, arith, length-append, length-set, append_assoc}
 use Rattle.shared_world.proofs.Imports.{append-nil, Action, Call, Running, Entry, at_some_moment_later, Ghosts, OneCallRuns, KeepsHistory, StoreAndSlots, snapshot_of, Fits, nat_cases, get_front}
-use Rattle.shared_world.proofs.Imports.{get_snoc, get_within, get_there, set_else, set_cases, Job, Scan, Record, Pending, IsCut, ListsCall, ListsUpkeep, Lists, RunsJob, IsPending, IsOurs}
-use Rattle.shared_world.proofs.Imports.{RecordFollows, IsSince, IsInTime, KeepsFitting}
+use Rattle.shared_world.proofs.Imports.{get_snoc, get_within, get_there, set_else, set_cases, Job, Scan, CompletedCall, PendingCall, WasLeft, ListsCall, ListsUpkeep, Lists, RunsCall, IsPending, IsOurs}
+use Rattle.shared_world.proofs.Imports.{CallFollows, IsSince, IsInTime, KeepsFitting}
 use Rattle.shared_world.proofs.Noting.{some_same}
 
 below_snoc : {A : Type 0} (xs : List A) (x : A) (j : ℕ) → j < length (xs ++ x ∷ []) → (j < length xs) ⊎ (j ≡ length xs)
@@ -13,20 +13,21 @@ get_append [] ys n a h = inr (n, h)
 get_append (x ∷ xs) ys zero a h = inl h
 get_append (x ∷ xs) ys (suc n) a h = get_append xs ys n a h
 
--- a scan that was given up rightly was so by a longer history too
-cut_later : (start : Entry → Bool) (l m : List Action) (job : Job) (r : Record) → r.to ≤ length l → IsCut start l job r → IsCut start (l ++ m) job r
-cut_later start l m (Scan range room) r le h =
-    (h.0, record { entry = h.1.entry; matched = h.1.matched; was_there = at_some_moment_later start l m r.from r.to r.to h.1.entry le (omega arith) h.1.was_there; beyond = h.1.beyond })
-cut_later start l m job r le h = absurd h
+-- a scan that was left rightly was so by a longer history too
+left_later : (start : Entry → Bool) (l m : List Action) (job : Job) (r : CompletedCall) → r.to ≤ length l → WasLeft start l job r → WasLeft start (l ++ m) job r
+left_later start l m (Scan range room) r le (inl h) = inl h
+left_later start l m (Scan range room) r le (inr h) =
+    inr (record { entry = h.entry; matched = h.matched; was_there = at_some_moment_later start l m r.from r.to r.to h.entry le (omega arith) h.was_there; beyond = h.beyond })
+left_later start l m job r le h = absurd h
 
 -- each of these actions is of the call of this number
 abbrev pub AllBy : ℕ → List Action → Type 0
 AllBy number more = (place : ℕ) (action : Action) → slice_get more place ≡ Some action → action.by ≡ number
 
-module _ {S : Type 0} (g : Ghosts S) (jobs : List Job) (contents : Entry → Bool) (acts : List Action) (old : List Call) (KeptThen : Type 0)
-    (w v : StoreAndSlots S) (sets_same : v.sets ≡ w.sets) (start : ℕ) (pending : List (Option Pending)) (records : List Record) where
+module _ {S : Type 0} (g : Ghosts S) (contents : Entry → Bool) (acts : List Action) (old : List Call) (KeptThen : Type 0)
+    (w v : StoreAndSlots S) (sets_same : v.sets ≡ w.sets) (start : ℕ) (pending : List (Option PendingCall)) (records : List CompletedCall) where
   abbrev pub Kept : Type 0
-  Kept = KeepsFitting g jobs contents acts old KeptThen w start pending records
+  Kept = KeepsFitting g contents acts old KeptThen w start pending records
 
   -- an event of one session changes no call but that of this number
   pub record Touches (k : Kept) (s i : ℕ) (more : List Action) (calls : List Call) : Type 0 where
@@ -39,13 +40,13 @@ module _ {S : Type 0} (g : Ghosts S) (jobs : List Job) (contents : Entry → Boo
     pub new : (j : ℕ) → j < length calls → (j < length k.calls) ⊎ (j ≡ i)
     pub within : (n : ℕ) (a : Action) → slice_get more n ≡ Some a → i < length calls
     pub free : (q : ℕ) → slice_get k.at q ≡ Some (Some i) → ⊥
-    pub apart : (t : ℕ) (q : Pending) → t ≢ s → (y : RunsJob w.sets jobs (length old) k.calls t q) → y.number ≢ i
+    pub apart : (t : ℕ) (q : PendingCall) → t ≢ s → (y : RunsCall w.sets (length old) k.calls t q) → y.number ≢ i
     -- no other running call is the session's
     pub alone : (j : ℕ) → j ≢ i → (h : IsPending k.calls pending j) → h.call.session ≢ s
     pub less : (g.backing w.store).durable ≤ (g.backing v.store).durable
 
-  -- every record's call ended by now
-  pub follows_now : (k : Kept) (s from : ℕ) → from ≡ length k.history → RecordFollows records s (length records) from
+  -- every call of the log ended by now
+  pub follows_now : (k : Kept) (s from : ℕ) → from ≡ length k.history → CallFollows records s (length records) from
   follows_now k s from e q r h same = (get_within records q r h, omega (arith, e, (k.in_time q r h).to_is))
 
   -- what is listed are calls that ended
@@ -53,8 +54,8 @@ module _ {S : Type 0} (g : Ghosts S) (jobs : List Job) (contents : Entry → Boo
   listed_call k j q h =
       let t = get_there records q (omega (arith, k.long, get_within k.at q (Some j) h)) in
       ⊎_elim
-      (λ (l : ListsCall contents k.history w.sets jobs k.calls k.at q t.0). (l.call, subst (λ n. slice_get k.calls n ≡ Some l.call) (some_same (some_same (sym l.at_is ∙ h))) l.found, l.is.over))
-      (λ (l : ListsUpkeep (g.backing w.store).durable jobs k.at q t.0). absurd (let e = sym l.at_is ∙ h in cc))
+      (λ (l : ListsCall contents k.history w.sets k.calls k.at q t.0). (l.call, subst (λ n. slice_get k.calls n ≡ Some l.call) (some_same (some_same (sym l.at_is ∙ h))) l.found, l.is.over))
+      (λ (l : ListsUpkeep (g.backing w.store).durable k.at q t.0). absurd (let e = sym l.at_is ∙ h in cc))
       (k.listed q t.0 t.1)
 
   old_above : (k : Kept) (i : ℕ) (c : Call) → slice_get old i ≡ Some c → i < length k.calls
@@ -67,7 +68,7 @@ module _ {S : Type 0} (g : Ghosts S) (jobs : List Job) (contents : Entry → Boo
       below zero e = omega (arith, e)
       below (suc n) e = let t = get_there old n (omega (arith, e)) in omega (arith, e, old_above k n t.0 t.1)
 
-  -- a session that runs no job has no running call
+  -- a session that has no pending call has no running one
   none_alone : (k : Kept) (s j : ℕ) → slice_get pending s ≡ Some None → (h : IsPending k.calls pending j) → h.call.session ≢ s
   none_alone k s j idle h e = (let a = sym h.waits ∙ ap (slice_get pending) e ∙ idle in absurd cc)
 
@@ -110,7 +111,7 @@ module _ {S : Type 0} (g : Ghosts S) (jobs : List Job) (contents : Entry → Boo
   }
 
   -- the session's running call goes on, or ends
-  pub touches_running : OneCallRuns g → (k : Kept) (s : ℕ) (p : Pending) (y : RunsJob w.sets jobs (length old) k.calls s p) (more : List Action) (after : Call) → AllBy y.number more
+  pub touches_running : OneCallRuns g → (k : Kept) (s : ℕ) (p : PendingCall) (y : RunsCall w.sets (length old) k.calls s p) (more : List Action) (after : Call) → AllBy y.number more
       → Fits g contents (snapshot_of v (k.history ++ more) (slice_set k.calls y.number after))
       → (KeepsHistory g contents (snapshot_of w k.history k.calls) → KeepsHistory g contents (snapshot_of v (k.history ++ more) (slice_set k.calls y.number after)))
       → (g.backing w.store).durable ≤ (g.backing v.store).durable → Touches k s y.number more (slice_set k.calls y.number after)
@@ -132,31 +133,27 @@ module _ {S : Type 0} (g : Ghosts S) (jobs : List Job) (contents : Entry → Boo
         less = less;
       }
 
-  module _ (k : Kept) (s i : ℕ) (more : List Action) (calls : List Call) (t : Touches k s i more calls) (o : Option Pending) where
-    abbrev then_pending : List (Option Pending)
+  module _ (k : Kept) (s i : ℕ) (more : List Action) (calls : List Call) (t : Touches k s i more calls) (o : Option PendingCall) where
+    abbrev then_pending : List (Option PendingCall)
     then_pending = slice_set pending s o
 
-    lists_kept : (ats : List (Option ℕ)) (q : ℕ) (r : Record) → r.to ≤ length k.history → Lists contents k.history (g.backing w.store).durable w.sets jobs k.calls k.at q r
-        → Lists contents (k.history ++ more) (g.backing v.store).durable v.sets jobs calls (k.at ++ ats) q r
+    lists_kept : (ats : List (Option ℕ)) (q : ℕ) (r : CompletedCall) → r.to ≤ length k.history → Lists contents k.history (g.backing w.store).durable w.sets k.calls k.at q r
+        → Lists contents (k.history ++ more) (g.backing v.store).durable v.sets calls (k.at ++ ats) q r
     lists_kept ats q r to l = ⊎_elim
-        (λ (x : ListsCall contents k.history w.sets jobs k.calls k.at q r). inl (record {
+        (λ (x : ListsCall contents k.history w.sets k.calls k.at q r). inl (record {
           number = x.number;
-          job = x.job;
           request = x.request;
           call = x.call;
           at_is = get_front k.at ats q (Some x.number) x.at_is;
-          job_is = x.job_is;
           asks = x.asks;
           found = t.rest x.number x.call (λ e. t.free q (x.at_is ∙ ap (λ n. Some (Some n)) e)) x.found;
           is = rw sets_same x.is;
           most = x.most;
-          cut = λ e. cut_later contents k.history more x.job r to (x.cut e);
+          left = λ e. left_later contents k.history more r.asked r to (x.left e);
         }))
-        (λ (x : ListsUpkeep (g.backing w.store).durable jobs k.at q r). inr (record {
-          job = x.job;
+        (λ (x : ListsUpkeep (g.backing w.store).durable k.at q r). inr (record {
           upkeep = x.upkeep;
           at_is = get_front k.at ats q None x.at_is;
-          job_is = x.job_is;
           asks = x.asks;
           answers = x.answers;
           none = x.none;
@@ -192,26 +189,24 @@ module _ {S : Type 0} (g : Ghosts S) (jobs : List Job) (contents : Entry → Boo
         (λ (x : (m : ℕ) × (slice_get more m ≡ Some a)). (let e = t.own x.0 a x.1 in (omega (arith, e, t.above), omega (arith, e, t.within x.0 a x.1))))
         (get_append k.history more n a h)
 
-    runs_kept : (u : ℕ) (q : Pending) → u ≢ s → RunsJob w.sets jobs (length old) k.calls u q → RunsJob v.sets jobs (length old) calls u q
+    runs_kept : (u : ℕ) (q : PendingCall) → u ≢ s → RunsCall w.sets (length old) k.calls u q → RunsCall v.sets (length old) calls u q
     runs_kept u q n y = record {
       number = y.number;
-      job = y.job;
       request = y.request;
       call = y.call;
-      job_is = y.job_is;
       asks = y.asks;
       own = y.own;
       is = record { found = t.rest y.number y.call (t.apart u q n y) y.is.found; session_is = y.is.session_is; running = y.is.running };
       ask_is = rw sets_same y.ask_is;
       began_is = y.began_is;
       given_is = y.given_is;
-      room = y.room;
+      most = y.most;
     }
 
-    -- no record is made
+    -- no call is over that was not before
     pub keeps_on : (i < length calls → IsOurs calls k.at then_pending i)
-        → ((q : Pending) → o ≡ Some q → RunsJob v.sets jobs (length old) calls s q × IsSince records (length (k.history ++ more)) s q.seen q.from)
-        → KeepsFitting g jobs contents acts old KeptThen v start then_pending records
+        → ((q : PendingCall) → o ≡ Some q → RunsCall v.sets (length old) calls s q × IsSince records (length (k.history ++ more)) s q.seen q.from)
+        → KeepsFitting g contents acts old KeptThen v start then_pending records
     keeps_on mine own =
         let long = length-append k.history more in
         record {
@@ -226,11 +221,11 @@ module _ {S : Type 0} (g : Ghosts S) (jobs : List Job) (contents : Entry → Boo
           ours = λ j a b. subst (λ l. IsOurs calls l then_pending j) (append-nil k.at) (ours_kept [] (λ l. subst (λ x. IsOurs calls x then_pending i) (sym (append-nil k.at)) (mine l)) j a b);
           owned = owned_kept;
           long = k.long;
-          listed = λ q r h. subst (λ l. Lists contents (k.history ++ more) (g.backing v.store).durable v.sets jobs calls l q r) (append-nil k.at)
+          listed = λ q r h. subst (λ l. Lists contents (k.history ++ more) (g.backing v.store).durable v.sets calls l q r) (append-nil k.at)
               (lists_kept [] q r (k.in_time q r h).to_is (k.listed q r h));
           once = k.once;
           runs = λ u q h. ⊎_elim
-              (λ (x : (u ≡ s) × (o ≡ Some q)). subst (λ n. RunsJob v.sets jobs (length old) calls n q) (sym x.0) (own q x.1).0)
+              (λ (x : (u ≡ s) × (o ≡ Some q)). subst (λ n. RunsCall v.sets (length old) calls n q) (sym x.0) (own q x.1).0)
               (λ (x : (u ≢ s) × (slice_get pending u ≡ Some (Some q))). runs_kept u q x.0 (k.runs u q x.1))
               (set_cases pending s u o (Some q) h);
           since = λ u q h. ⊎_elim
@@ -241,13 +236,13 @@ module _ {S : Type 0} (g : Ghosts S) (jobs : List Job) (contents : Entry → Boo
           in_time = λ q r h. (let y = k.in_time q r h in record { seen_is = y.seen_is; from_is = y.from_is; to_is = omega (arith, y.to_is, long) });
         }
 
-    -- one record is made, and the session runs nothing then
-    pub keeps_with : (r : Record) → r.worker ≡ s → o ≡ None → (entry : Option ℕ) → ((j : ℕ) → entry ≡ Some j → j ≡ i)
+    -- one call more is over, and the session runs nothing then
+    pub keeps_with : (r : CompletedCall) → r.session ≡ s → o ≡ None → (entry : Option ℕ) → ((j : ℕ) → entry ≡ Some j → j ≡ i)
         → (i < length calls → IsOurs calls (k.at ++ entry ∷ []) then_pending i)
-        → Lists contents (k.history ++ more) (g.backing v.store).durable v.sets jobs calls (k.at ++ entry ∷ []) (length records) r
+        → Lists contents (k.history ++ more) (g.backing v.store).durable v.sets calls (k.at ++ entry ∷ []) (length records) r
         → IsInTime (length (k.history ++ more)) (length records) r
-        → RecordFollows records s r.seen r.from
-        → KeepsFitting g jobs contents acts old KeptThen v start then_pending (records ++ r ∷ [])
+        → CallFollows records s r.seen r.from
+        → KeepsFitting g contents acts old KeptThen v start then_pending (records ++ r ∷ [])
     keeps_with r worker none entry fresh mine listed in_time follows =
         let long = length-append k.history more in
         let one = entry ∷ [] in
@@ -267,7 +262,7 @@ module _ {S : Type 0} (g : Ghosts S) (jobs : List Job) (contents : Entry → Boo
           listed = λ q u h. ⊎_elim
               (λ (x : (q < length records) × (slice_get records q ≡ Some u)). lists_kept one q u (k.in_time q u x.1).to_is (k.listed q u x.1))
               (λ (x : (q ≡ length records) × (r ≡ u)).
-              subst (λ (y : ℕ × Record). Lists contents (k.history ++ more) (g.backing v.store).durable v.sets jobs calls (k.at ++ one) y.0 y.1) (λ z. (sym x.0 z, x.1 z)) listed)
+              subst (λ (y : ℕ × CompletedCall). Lists contents (k.history ++ more) (g.backing v.store).durable v.sets calls (k.at ++ one) y.0 y.1) (λ z. (sym x.0 z, x.1 z)) listed)
               (get_snoc records r u q h);
           once = λ p q j x y. ⊎_elim
               (λ (a : (p < length k.at) × (slice_get k.at p ≡ Some (Some j))). ⊎_elim
@@ -290,7 +285,7 @@ module _ {S : Type 0} (g : Ghosts S) (jobs : List Job) (contents : Entry → Boo
                 from_is = omega (arith, y.from_is, long);
                 behind = λ m z hm is. ⊎_elim
                     (λ (b : (m < length records) × (slice_get records m ≡ Some z)). y.behind m z b.1 is)
-                    (λ (b : (m ≡ length records) × (r ≡ z)). absurd (x.0 (sym is ∙ ap (λ (d : Record). d.worker) (sym b.1) ∙ worker)))
+                    (λ (b : (m ≡ length records) × (r ≡ z)). absurd (x.0 (sym is ∙ ap (λ (d : CompletedCall). d.session) (sym b.1) ∙ worker)))
                     (get_snoc records r z m hm);
               }))
               (set_cases pending s u o (Some q) h);
@@ -301,23 +296,23 @@ module _ {S : Type 0} (g : Ghosts S) (jobs : List Job) (contents : Entry → Boo
               (λ (b : (p ≡ length records) × (r ≡ u)). absurd (omega (arith, less, m.0, b.0))) (get_snoc records r u p x)) m.1 same)
               (λ (m : (q ≡ length records) × (r ≡ z)). ⊎_elim
               (λ (b : (p < length records) × (slice_get records p ≡ Some u)).
-              subst (λ (d : Record). (p < d.seen) × (u.to ≤ d.from)) m.1 (follows p u b.1 (same ∙ ap (λ (d : Record). d.worker) (sym m.1) ∙ worker)))
+              subst (λ (d : CompletedCall). (p < d.seen) × (u.to ≤ d.from)) m.1 (follows p u b.1 (same ∙ ap (λ (d : CompletedCall). d.session) (sym m.1) ∙ worker)))
               (λ (b : (p ≡ length records) × (r ≡ u)). absurd (omega (arith, less, m.0, b.0)))
               (get_snoc records r u p x))
               (get_snoc records r z q y);
           in_time = λ q u h. ⊎_elim
               (λ (x : (q < length records) × (slice_get records q ≡ Some u)). (let y = k.in_time q u x.1 in record { seen_is = y.seen_is; from_is = y.from_is; to_is = omega (arith, y.to_is, long) }))
-              (λ (x : (q ≡ length records) × (r ≡ u)). subst (λ (y : ℕ × Record). IsInTime (length (k.history ++ more)) y.0 y.1) (λ z. (sym x.0 z, x.1 z)) in_time)
+              (λ (x : (q ≡ length records) × (r ≡ u)). subst (λ (y : ℕ × CompletedCall). IsInTime (length (k.history ++ more)) y.0 y.1) (λ z. (sym x.0 z, x.1 z)) in_time)
               (get_snoc records r u q h);
         }
 
--- a run begins with the world as it was handed in
-pub keeps_first : {S : Type 0} (g : Ghosts S) (jobs : List Job) (contents : Entry → Bool) (acts : List Action) (old : List Call) (KeptThen : Type 0)
-    (w : StoreAndSlots S) (start : ℕ) (pending : List (Option Pending))
+-- it begins with the world as it was handed in
+pub keeps_first : {S : Type 0} (g : Ghosts S) (contents : Entry → Bool) (acts : List Action) (old : List Call) (KeptThen : Type 0)
+    (w : StoreAndSlots S) (start : ℕ) (pending : List (Option PendingCall))
     → Fits g contents (snapshot_of w acts old) → (KeptThen → KeepsHistory g contents (snapshot_of w acts old)) → start ≡ length acts
-    → ((s : ℕ) (p : Pending) → slice_get pending s ≡ Some (Some p) → ⊥)
-    → KeepsFitting g jobs contents acts old KeptThen w start pending []
-keeps_first g jobs contents acts old KeptThen w start pending fit safe is none = record {
+    → ((s : ℕ) (p : PendingCall) → slice_get pending s ≡ Some (Some p) → ⊥)
+    → KeepsFitting g contents acts old KeptThen w start pending []
+keeps_first g contents acts old KeptThen w start pending fit safe is none = record {
   history = acts;
   calls = old;
   at = [];

@@ -11,4 +11,6 @@ pub mod Owning
 pub mod Acting
 pub mod Transiting
 pub mod Beginning
+pub mod Listing
+pub mod Serving
 pub mod Ending

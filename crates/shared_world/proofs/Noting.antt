@@ -1,8 +1,8 @@
--- What the keeper's view has of the records and of the calls that run.
-use Rattle.std.proofs.Common.{◌≡◌, ◌≢◌, ℕ, zero, suc, ◌<◌, ◌&&◌, not, Bool, true, false, unwrap_or, List, [], ◌∷◌, ◌++◌, length, Option, Some, None, slice_get, slice_set, refl, sym, ap, ◌∙◌, subst, ⊎_elim, arith, length-set}
+-- Which sessions run a call, and lists that are written.
+use Rattle.std.proofs.Common.{◌≡◌, ◌≢◌, ℕ, zero, suc, ◌<◌, ◌&&◌, not, Bool, true, false, unwrap_or, List, [], ◌∷◌, length, Option, Some, None, slice_get, slice_set, refl, sym, ap, ◌∙◌, subst, ⊎_elim, arith, length-set}
 use mathlib.Core.Logic.{∥∥₁_elim}
-use Rattle.shared_world.proofs.Imports.{is_last, RunsUntilLast, is_busy, has_call, slot_has_call, slot_of, Answer, OthersStay, SeatView, keeper_of, Begun, Op, is_begun, Record, Pending}
-use Rattle.shared_world.proofs.Imports.{MatchesPending, note_of, notes_of, job_of, jobs_of, nat_cases, get_within, set_cases}
+use Rattle.shared_world.proofs.Imports.{is_last, RunsUntilLast, is_busy, has_call, slot_has_call, slot_of, Answer, OthersStay, Begun, Op, is_begun, PendingCall}
+use Rattle.shared_world.proofs.Imports.{MatchesPending, nat_cases, get_within, set_cases}
 
 -- what is in equal options is equal
 pub some_same : {A : Type 0} {x y : A} → Some x ≡ Some y → x ≡ y
@@ -12,42 +12,12 @@ some_same e = cc
 pub clash : (b : Bool) → b ≡ true → b ≡ false → ⊥
 clash b h k = absurd cc
 
-pub none_there : (pending : List (Option Pending)) (s : ℕ) → slice_get (jobs_of pending) s ≡ Some None → slice_get pending s ≡ Some None
-none_there [] s e = absurd cc
-none_there (None ∷ ps) zero e = refl
-none_there (Some p ∷ ps) zero e = absurd cc
-none_there (p ∷ ps) (suc s) e = none_there ps s e
-
-pub some_there : (pending : List (Option Pending)) (s job : ℕ) → slice_get (jobs_of pending) s ≡ Some (Some job) → (p : Pending) × (slice_get pending s ≡ Some (Some p)) × (p.job ≡ job)
-some_there [] s job e = absurd cc
-some_there (None ∷ ps) zero job e = absurd cc
-some_there (Some p ∷ ps) zero job e = (p, refl, cc)
-some_there (p ∷ ps) (suc s) job e = some_there ps s job e
-
-pub within : (pending : List (Option Pending)) (s : ℕ) (o : Option ℕ) → slice_get (jobs_of pending) s ≡ Some o → s < length pending
-within [] s o e = absurd cc
-within (p ∷ ps) zero o e = omega arith
-within (p ∷ ps) (suc s) o e = omega (arith, within ps s o e)
-
-pub jobs_of_set : (pending : List (Option Pending)) (s : ℕ) (o : Option Pending) → jobs_of (slice_set pending s o) ≡ slice_set (jobs_of pending) s (job_of o)
-jobs_of_set [] s o = refl
-jobs_of_set (p ∷ ps) zero o = refl
-jobs_of_set (p ∷ ps) (suc s) o = ap (λ l. job_of p ∷ l) (jobs_of_set ps s o)
-
-pub notes_of_snoc : (records : List Record) (r : Record) → notes_of (records ++ r ∷ []) ≡ notes_of records ++ note_of r ∷ []
-notes_of_snoc [] r = refl
-notes_of_snoc (x ∷ xs) r = ap (λ l. note_of x ∷ l) (notes_of_snoc xs r)
-
-pub length_notes : (records : List Record) → length (notes_of records) ≡ length records
-length_notes [] = refl
-length_notes (x ∷ xs) = ap suc (length_notes xs)
-
-pub set_same : (xs : List (Option Pending)) (i : ℕ) (v : Option Pending) → slice_get xs i ≡ Some v → slice_set xs i v ≡ xs
+pub set_same : {A : Type 0} (xs : List A) (i : ℕ) (v : A) → slice_get xs i ≡ Some v → slice_set xs i v ≡ xs
 set_same [] i v e = refl
 set_same (x ∷ xs) zero v e = cc
 set_same (x ∷ xs) (suc i) v e = ap (λ l. x ∷ l) (set_same xs i v e)
 
-pub set_twice : (xs : List (Option Pending)) (i : ℕ) (u v : Option Pending) → slice_set (slice_set xs i u) i v ≡ slice_set xs i v
+pub set_twice : {A : Type 0} (xs : List A) (i : ℕ) (u v : A) → slice_set (slice_set xs i u) i v ≡ slice_set xs i v
 set_twice [] i u v = refl
 set_twice (x ∷ xs) zero u v = refl
 set_twice (x ∷ xs) (suc i) u v = ap (λ l. x ∷ l) (set_twice xs i u v)
@@ -69,11 +39,6 @@ pub last_of : (old new : List (Option Op)) (s : ℕ) (answer : Answer) → RunsU
 last_of old new s answer until was =
     last_is (has_call old s) (has_call new s) (is_last answer) (sym (busy_is new s) ∙ until ∙ ap (λ b. b && not (is_last answer)) (busy_is old s)) was
 
--- what a seat knows of its session
-pub seat_runs : (v : SeatView) (s : ℕ) (log : List (ℕ × ℕ)) (pending : List (Option Pending)) (o t : Option ℕ) → v ≡ keeper_of log (jobs_of pending)
-    → slice_get v.running s ≡ Some o → o ≡ t → slice_get (jobs_of pending) s ≡ Some t
-seat_runs v s log pending o t knows at is = ap (λ (x : SeatView). slice_get x.running s) (sym knows) ∙ at ∙ ap Some is
-
 -- which sessions run a call
 abbrev pub OthersRunOn : List (Option Op) → List (Option Op) → ℕ → Type 0
 OthersRunOn old new s = (t : ℕ) → t ≢ s → has_call new t ≡ has_call old t
@@ -81,21 +46,21 @@ OthersRunOn old new s = (t : ℕ) → t ≢ s → has_call new t ≡ has_call ol
 pub others_run_on : (old new : List (Option Op)) (s : ℕ) → OthersStay s old new → OthersRunOn old new s
 others_run_on old new s others t n = ap slot_has_call (others t n)
 
-pub runs_there : (slots : List (Option Op)) (pending : List (Option Pending)) (s : ℕ) (p : Pending) → ∥ MatchesPending slots pending ∥₁ → slice_get pending s ≡ Some (Some p) → has_call slots s ≡ true
+pub runs_there : (slots : List (Option Op)) (pending : List (Option PendingCall)) (s : ℕ) (p : PendingCall) → ∥ MatchesPending slots pending ∥₁ → slice_get pending s ≡ Some (Some p) → has_call slots s ≡ true
 runs_there slots pending s p m e = yes (has_call slots s) (λ no. ∥∥₁_elim m (λ x y. absurd x) (λ k. clash (has_call slots s) (k.runs s p e) no))
   where
     yes : (b : Bool) → (b ≡ false → ⊥) → b ≡ true
     yes true f = refl
     yes false f = absurd (f refl)
 
-pub rests_there : (slots : List (Option Op)) (pending : List (Option Pending)) (s : ℕ) → ∥ MatchesPending slots pending ∥₁ → slice_get pending s ≡ Some None → has_call slots s ≡ false
+pub rests_there : (slots : List (Option Op)) (pending : List (Option PendingCall)) (s : ℕ) → ∥ MatchesPending slots pending ∥₁ → slice_get pending s ≡ Some None → has_call slots s ≡ false
 rests_there slots pending s m e = no (has_call slots s) (λ yes. ∥∥₁_elim m (λ x y. absurd x) (λ k. clash (has_call slots s) yes (k.rests s e)))
   where
     no : (b : Bool) → (b ≡ true → ⊥) → b ≡ false
     no true f = absurd (f refl)
     no false f = refl
 
-pub matches_runs : (old new : List (Option Op)) (pending : List (Option Pending)) (s : ℕ) (p : Pending) → s < length pending → has_call new s ≡ true
+pub matches_runs : (old new : List (Option Op)) (pending : List (Option PendingCall)) (s : ℕ) (p : PendingCall) → s < length pending → has_call new s ≡ true
     → OthersRunOn old new s → MatchesPending old pending → MatchesPending new (slice_set pending s (Some p))
 matches_runs old new pending s p inside now others m = record {
   runs = λ t q h. ⊎_elim
@@ -109,7 +74,7 @@ matches_runs old new pending s p inside now others m = record {
   beyond = λ t l. let long = length-set pending s (Some p) in others t (λ e. omega (arith, e, l, long, inside)) ∙ m.beyond t (omega (arith, l, long));
 }
 
-pub matches_ends : (old new : List (Option Op)) (pending : List (Option Pending)) (s : ℕ) → has_call new s ≡ false → OthersRunOn old new s
+pub matches_ends : (old new : List (Option Op)) (pending : List (Option PendingCall)) (s : ℕ) → has_call new s ≡ false → OthersRunOn old new s
     → MatchesPending old pending → MatchesPending new (slice_set pending s None)
 matches_ends old new pending s now others m = record {
   runs = λ t q h. ⊎_elim
@@ -126,7 +91,7 @@ matches_ends old new pending s now others m = record {
       (nat_cases t s);
 }
 
-pub matches_goes : (old new : List (Option Op)) (pending : List (Option Pending)) (s : ℕ) (p : Pending) → slice_get pending s ≡ Some (Some p)
+pub matches_goes : (old new : List (Option Op)) (pending : List (Option PendingCall)) (s : ℕ) (p : PendingCall) → slice_get pending s ≡ Some (Some p)
     → has_call new s ≡ true → OthersRunOn old new s → MatchesPending old pending → MatchesPending new pending
 matches_goes old new pending s p e now others m = subst (MatchesPending new) (set_same pending s (Some p) e) (matches_runs old new pending s p (get_within pending s (Some p) e) now others m)
 
@@ -137,5 +102,5 @@ begun_is a h = absurd cc
 pub not_begun : (a : Answer) → is_begun a ≡ false → a ≡ Begun → ⊥
 not_begun a h e = clash (is_begun a) (ap is_begun e) h
 
-pub matches_stays : (old new : List (Option Op)) (pending : List (Option Pending)) → ((t : ℕ) → has_call new t ≡ has_call old t) → MatchesPending old pending → MatchesPending new pending
+pub matches_stays : (old new : List (Option Op)) (pending : List (Option PendingCall)) → ((t : ℕ) → has_call new t ≡ has_call old t) → MatchesPending old pending → MatchesPending new pending
 matches_stays old new pending same m = record { runs = λ t q h. same t ∙ m.runs t q h; rests = λ t h. same t ∙ m.rests t h; beyond = λ t l. same t ∙ m.beyond t l }

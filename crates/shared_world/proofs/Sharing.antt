@@ -1,129 +1,121 @@
--- What lies under the lock: what a worker's seat tells of it, and what is so of it after an event.
-use Rattle.std.proofs.Common.{◌≡◌, ◌<◌, ◌≤◌, ◌+◌, ◌++◌, ◌∷◌, [], ℕ, true, List, length, Option, Some, None, slice_get, slice_set, get_or, vec_len, vec_capacity, sym, ap, ◌∙◌, subst, arith}
-use Rattle.shared_world.proofs.Imports.{∥∥₁_map, slice_get_read, SetGhosts, Ghosts, has_call, Answer, StoreAndSlots, keeper_of, known_by, LedgerGhosts, RunGhosts, SeatView, inside, World, JobGhosts, StoreJobGhosts, Pending}
-use Rattle.shared_world.proofs.Imports.{Record, Shared, HasActed, ComesOf, StillFollows, KeepsAll, MatchesPending, record_of, notes_of, jobs_of, TurnMeans, HasNotedAt}
+-- What lies under the lock: what a session's seat tells of it, and what is so of it after an event.
+use Rattle.std.proofs.Common.{◌≡◌, ◌≤◌, ◌++◌, ◌∷◌, [], ℕ, true, false, List, length, Option, Some, None, slice_get, slice_set, sym, ap, ◌∙◌, subst, arith}
+use Rattle.session_seats.specs.Calls.{begun_by, completed_by, completed_of, given_by, given_more}
+use Rattle.session_seats.specs.Seats.{keeper_with, view_of}
+use Rattle.session_seats.specs.declared.call.CompletedCall.{CompletedCall}
+use Rattle.session_seats.specs.declared.call.Notice.{Notice}
+use Rattle.session_seats.specs.declared.call.PendingCall.{PendingCall}
+use Rattle.session_seats.specs.declared.seating.SessionView.{SessionView}
+use Rattle.shared_world.specs.Leaving.{LeavesCall}
+use Rattle.shared_world.proofs.Imports.{∥∥₁_map, Answer, SetGhosts, Ghosts, has_call, StoreAndSlots, GroupGhosts, OriginGhosts, OriginOnGhosts, inside, World, Live, HasActed, ComesOf, StillFollows, KeepsAll, MatchesPending}
 use Rattle.shared_world.proofs.Handing.{IsNext, comes_on, follows_on}
-use Rattle.shared_world.proofs.Noting.{none_there, some_there, some_same, within, notes_of_snoc, length_notes, runs_there, seat_runs}
+use Rattle.shared_world.proofs.Noting.{runs_there, set_same, set_twice}
 
-module _ {S T J : Type 0} {g : Ghosts S} {rows : SetGhosts T} {past : StoreJobGhosts J S} {j : JobGhosts J} {run : RunGhosts J} {ledger : LedgerGhosts J} (self : Shared S T J g rows past j run ledger) where
-  -- what is kept of what this run began with
-  abbrev pub KeepsWith : StoreAndSlots S → List (Option Pending) → List Record → Type 0
-  KeepsWith here pending records = KeepsAll g j.stood j.kept_then j.jobs here self.start pending records
+module _ {S T J : Type 0} {g : Ghosts S} {rows : SetGhosts T} {past : OriginOnGhosts J S} {j : OriginGhosts J} {group : GroupGhosts J} (self : Live S T J g rows past j group) where
+  -- the calls that run, and those that are over
+  abbrev pub pending_in : List (Option PendingCall)
+  pending_in = (view_of self.desk.keeper).pending
 
-  -- ... and what was done for its jobs
-  abbrev ActsWith : StoreAndSlots S → List (Option Pending) → List Record → Type 0
-  ActsWith here pending records = HasActed g j.handed j.jobs here pending records
+  abbrev pub log_in : List CompletedCall
+  log_in = (view_of self.desk.keeper).log
 
-  module _ (w : ℕ) where
-    -- the worker's session runs this job: it is pending at the worker's place, and the session has a call
-    pub record RunsAt (job : ℕ) (p : Pending) : Type 0 where
-      pub found : slice_get self.pending.items w ≡ Some (Some p)
-      pub job_is : p.job ≡ job
-      pub inside : w < vec_len self.pending
-      pub has : has_call self.world.calls.slots.items w ≡ true
+  -- what is kept of what fitted the world as it was handed in
+  abbrev pub KeepsWith : StoreAndSlots S → List (Option PendingCall) → List CompletedCall → Type 0
+  KeepsWith here pending log = KeepsAll g j.stood j.kept_then here self.start pending log
 
-    -- it runs what its seat tells
-    pub running_at : {job : ℕ} {o : Option ℕ} → slice_get (known_by self.desk.keeper).running w ≡ Some o → o ≡ Some job → (p : Pending) × RunsAt job p
-    running_at {job} {o} at is =
-        let known = seat_runs (known_by self.desk.keeper) w (notes_of self.history.items) self.pending.items o (Some job) self.knows at is in
-        let inside = within self.pending.items w (Some job) known in
-        let p = some_there self.pending.items w job known in
-        (p.0, record { found = p.1; job_is = p.2; inside = omega (arith, inside, self.pending.ok.0); has = runs_there self.world.calls.slots.items self.pending.items w p.0 self.matches p.1 })
+  -- ... and what was done for its calls
+  abbrev ActsWith : StoreAndSlots S → List (Option PendingCall) → List CompletedCall → Type 0
+  ActsWith here pending log = HasActed g j.handed here pending log
 
-    -- it runs nothing, if its seat tells so
-    pub idle_at : {o : Option ℕ} → slice_get (known_by self.desk.keeper).running w ≡ Some o → o ≡ None → slice_get self.pending.items w ≡ Some None
-    idle_at {o} at is = none_there self.pending.items w (seat_runs (known_by self.desk.keeper) w (notes_of self.history.items) self.pending.items o None self.knows at is)
+  -- this session runs this call
+  pub record RunsAt (s : ℕ) (p : PendingCall) : Type 0 where
+    pub found : slice_get pending_in s ≡ Some (Some p)
+    pub has : has_call self.world.calls.slots.items s ≡ true
 
-    -- what is read at the worker's place is the job that runs
-    pub read_here : {job : ℕ} {p : Pending} → RunsAt job p → (x : Option Pending) → x ≡ get_or self.pending.items w x → x ≡ Some p
-    read_here here x value = some_same (sym (slice_get_read self.pending.items self.pending.len w x self.pending.ok.0 here.inside value) ∙ here.found)
-
-    -- ... and so is what is taken out there
-    pub taken_out : {job : ℕ} {o : Option ℕ} {x y : Option Pending} {p : Pending} → slice_get (known_by self.desk.keeper).running w ≡ Some o → o ≡ Some job
-        → x ≡ get_or self.pending.items w x → y ≡ x → y ≡ Some p → RunsAt job p
-    taken_out {job} {o} {x} at is value took some =
-        let q = running_at at is in
-        subst (RunsAt job) (some_same (sym (took ∙ read_here q.1 x value) ∙ some)) q.1
-
-    -- ... so that something is
-    pub some_taken : {job : ℕ} {o : Option ℕ} {x y : Option Pending} → slice_get (known_by self.desk.keeper).running w ≡ Some o → o ≡ Some job
-        → x ≡ get_or self.pending.items w x → y ≡ x → ((p : Pending) → y ≡ Some p → ⊥) → ⊥
-    some_taken {job} {o} {x} at is value took none =
-        let q = running_at at is in
-        none q.0 (took ∙ read_here q.1 x value)
-
-    -- a turn that made a record of the job, and took it out
-    pub turn_recorded : {job : ℕ} {p : Pending} → RunsAt job p → (answer : Answer) (to : ℕ) {place : ℕ} {x : Record} {records : List Record} {o : Option Pending}
-        → place ≡ vec_len self.history → records ≡ self.history.items ++ x ∷ [] → x ≡ record_of w p answer to → o ≡ None
-        → TurnMeans w job answer to (Some place) self.history.items records self.pending.items (slice_set self.pending.items w o)
-    turn_recorded {job} {p} here answer to place items is none = record {
-      running = p;
-      found = here.found;
-      job_is = here.job_is;
-      history = (place ∙ self.history.ok.0, items ∙ ap (λ (r : Record). self.history.items ++ r ∷ []) is);
-      pending = ap (slice_set self.pending.items w) none;
-    }
-
-    -- ... and the note of its seat
-    pub seat_noted : {job : ℕ} {p : Pending} → RunsAt job p → {mid before now after : SeatView} {place : ℕ} → mid ≡ known_by self.desk.keeper → now ≡ before → place ≡ vec_len self.history
-        → after.job ≡ None → after.notes ≡ now.notes ++ (length mid.log, p.job) ∷ [] → HasNotedAt job place before after
-    seat_noted here knows view is rests notes =
-        let place = ap (λ (v : SeatView). length v.log) (knows ∙ self.knows) ∙ length_notes self.history.items ∙ sym (is ∙ self.history.ok.0) in
-        record { rests = rests; notes = notes ∙ (λ i. (view i).notes ++ (place i, here.job_is i) ∷ []) }
+  -- it runs what its seat tells
+  pub running_at : (s : ℕ) {p : PendingCall} {o : Option PendingCall} → slice_get pending_in s ≡ Some o → o ≡ Some p → RunsAt s p
+  running_at s {p} at is =
+      let found = at ∙ ap Some is in
+      record { found = found; has = runs_there self.world.calls.slots.items pending_in s p self.matches found }
 
   module _ (world : World S T) where
-    -- an event leaves the world so, with these jobs that run and these records: what was so under the lock is
-    -- so of them
-    pub record CarriesOn (pending : List (Option Pending)) (records : List Record) : Type 0 where
-      pub keeps : KeepsWith (inside rows self.world) self.pending.items self.history.items → KeepsWith (inside rows world) pending records
-      pub acts : ActsWith (inside rows self.world) self.pending.items self.history.items → ActsWith (inside rows world) pending records
-      pub matches : MatchesPending self.world.calls.slots.items self.pending.items → MatchesPending world.calls.slots.items pending
+    -- an event leaves the world so, with these calls that run and this log: what was so under the lock is so
+    -- of them
+    pub record CarriesOn (pending : List (Option PendingCall)) (log : List CompletedCall) : Type 0 where
+      pub keeps : KeepsWith (inside rows self.world) pending_in log_in → KeepsWith (inside rows world) pending log
+      pub acts : ActsWith (inside rows self.world) pending_in log_in → ActsWith (inside rows world) pending log
+      pub matches : MatchesPending self.world.calls.slots.items pending_in → MatchesPending world.calls.slots.items pending
+      pub long : length pending ≡ length pending_in
       pub next : IsNext g (inside rows self.world) (inside rows world)
 
-    -- all that is to be so as the lock is released, with so many records, in room for so many, and this
-    -- number in the book; the keeper's pass has this view
-    abbrev pub IsInOrder : List (Option Pending) → List Record → ℕ → ℕ → ℕ → SeatView → Type 0
-    IsInOrder pending records count capacity total view = record {
-      kept : ∥ KeepsWith (inside rows world) pending records ∥₁;
-      acted : ∥ ActsWith (inside rows world) pending records ∥₁;
-      matches : ∥ MatchesPending world.calls.slots.items pending ∥₁;
-      seats : vec_len self.pending ≤ length world.calls.slots.items;
-      workers : vec_len self.pending ≡ j.workers;
-      handed : ∥ ComesOf g j.handed self.start (inside rows world) ∥₁;
-      enough : length j.jobs ≤ capacity;
+    -- all that is to be so as the lock is released, if the keeper knows this
+    abbrev pub IsInOrder : SessionView → Type 0
+    IsInOrder v = record {
+      kept : ∥ KeepsWith (inside rows world) v.pending v.log ∥₁;
+      acted : ∥ ActsWith (inside rows world) v.pending v.log ∥₁;
+      matches : ∥ MatchesPending world.calls.slots.items v.pending ∥₁;
+      seats : length v.pending ≤ length world.calls.slots.items;
+      comes : ∥ ComesOf g j.handed self.start (inside rows world) ∥₁;
       steps : ∥ StillFollows g past.followed world.store ∥₁;
-      counted : total ≡ count;
-      knows : view ≡ keeper_of (notes_of records) (jobs_of pending);
     }
 
     -- it is so after such an event
-    pub in_order : {pending : List (Option Pending)} {records : List Record} → CarriesOn pending records → {count capacity total : ℕ} {view : SeatView}
-        → capacity ≡ vec_capacity self.history → total ≡ count → view ≡ keeper_of (notes_of records) (jobs_of pending)
-        → IsInOrder pending records count capacity total view
-    in_order leaves holds counted knows = record {
+    pub in_order : {pending : List (Option PendingCall)} {log : List CompletedCall} {view : SessionView} → CarriesOn pending log → view ≡ keeper_with log pending → IsInOrder view
+    in_order leaves is = subst IsInOrder (sym is) (record {
       kept = ∥∥₁_map self.kept leaves.keeps;
       acted = ∥∥₁_map self.acted leaves.acts;
       matches = ∥∥₁_map self.matches leaves.matches;
-      seats = omega (arith, self.seats, leaves.next.sessions);
-      workers = self.workers;
-      handed = ∥∥₁_map self.handed (comes_on g j.handed self.start (inside rows self.world) (inside rows world) leaves.next);
-      enough = omega (arith, self.enough, holds);
+      seats = omega (arith, self.seats, leaves.long, leaves.next.sessions);
+      comes = ∥∥₁_map self.comes (comes_on g j.handed self.start (inside rows self.world) (inside rows world) leaves.next);
       steps = ∥∥₁_map self.steps (follows_on g past.followed (inside rows self.world) (inside rows world) leaves.next);
-      counted = counted;
-      knows = knows;
-    }
+    })
 
-    -- ... after one that made a record of the session's job, which runs no more
-    pub in_order_recorded : (s : ℕ) (p : Pending) (answer : Answer) (to : ℕ) (left : List (Option Pending)) → CarriesOn left (self.history.items ++ record_of s p answer to ∷ [])
-        → jobs_of left ≡ slice_set (jobs_of self.pending.items) s None
-        → {x : Record} {pending : List (Option Pending)} {records : List Record} {count capacity total worker : ℕ} {mid view : SeatView}
-        → pending ≡ left → records ≡ self.history.items ++ x ∷ [] → x ≡ record_of s p answer to → count ≡ vec_len self.history + 1 → capacity ≡ vec_capacity self.history → total ≡ self.book.total + 1
-        → mid ≡ known_by self.desk.keeper → worker ≡ s → view ≡ keeper_of (mid.log ++ (worker, p.job) ∷ []) (slice_set mid.running worker None)
-        → IsInOrder pending records count capacity total view
-    in_order_recorded s p answer to left leaves ended {x} {pending} {records} {count} {capacity} {total} {worker} {mid} {view} pending_is items is count_is holds total_is same sits knows =
-        let all = items ∙ ap (λ (r : Record). self.history.items ++ r ∷ []) is in
-        let v = same ∙ self.knows in
-        subst (λ (h : List (Option Pending) × List Record). IsInOrder h.0 h.1 count capacity total view) (λ i. (sym pending_is i, sym all i))
-        (in_order leaves holds (total_is ∙ ap (λ n. n + 1) self.counted ∙ sym count_is)
-        (knows ∙ (λ i. keeper_of ((v i).log ++ (sits i, p.job) ∷ []) (slice_set (v i).running (sits i) None))
-        ∙ (λ i. keeper_of (sym (notes_of_snoc self.history.items (record_of s p answer to)) i) (sym ended i))))
+-- What the steps of the seats' cell leave. The keeper knew k and the seat v, and a look has left both so: m
+-- and x. The session is s, and so is that of the seat then. Each step has a notice.
+module _ (k m : SessionView) (s t : ℕ) (keeper : m ≡ k) (same : t ≡ s) (notice : Notice) where
+  -- a call has begun
+  pub begun_view : {n : SessionView} → n ≡ keeper_with m.log (slice_set m.pending t (Some (begun_by notice (length m.log)))) → n ≡ keeper_with k.log (slice_set k.pending s (Some (begun_by notice (length k.log))))
+  begun_view known = known ∙ (λ i. keeper_with (keeper i).log (slice_set (keeper i).pending (same i) (Some (begun_by notice (length (keeper i).log)))))
+
+  -- ... and is over at once
+  pub done_view : {n l : SessionView} {r : ℕ} {o : Option PendingCall} → n ≡ keeper_with m.log (slice_set m.pending t (Some (begun_by notice (length m.log)))) → r ≡ t → o ≡ Some (begun_by notice (length m.log))
+      → l ≡ keeper_with (n.log ++ completed_by r notice o ∷ []) (slice_set n.pending r None)
+      → l ≡ keeper_with (k.log ++ completed_of s (begun_by notice (length k.log)) notice.answer notice.at ∷ []) (slice_set k.pending s None)
+  done_view known again call last =
+      let b = begun_view known in
+      let o = call ∙ ap (λ (u : SessionView). Some (begun_by notice (length u.log))) keeper in
+      last ∙ (λ i. keeper_with ((b i).log ++ completed_by ((again ∙ same) i) notice (o i) ∷ []) (slice_set (b i).pending ((again ∙ same) i) None))
+      ∙ ap (keeper_with (k.log ++ completed_of s (begun_by notice (length k.log)) notice.answer notice.at ∷ [])) (set_twice k.pending s (Some (begun_by notice (length k.log))) None)
+
+  -- the call that runs has given one entry more
+  pub given_view : {n : SessionView} {o : Option PendingCall} (p : PendingCall) → o ≡ Some p → n ≡ keeper_with m.log (slice_set m.pending t (given_by notice o)) → n ≡ keeper_with k.log (slice_set k.pending s (Some (given_more p notice.answer)))
+  given_view p runs known = known ∙ (λ i. keeper_with (keeper i).log (slice_set (keeper i).pending (same i) (given_by notice (runs i))))
+
+  -- ... or is over
+  pub ended_view : {n : SessionView} {o : Option PendingCall} (p : PendingCall) → o ≡ Some p → n ≡ keeper_with (m.log ++ completed_by t notice o ∷ []) (slice_set m.pending t None)
+      → n ≡ keeper_with (k.log ++ completed_of s p notice.answer notice.at ∷ []) (slice_set k.pending s None)
+  ended_view p runs known = known ∙ (λ i. keeper_with ((keeper i).log ++ completed_by (same i) notice (runs i) ∷ []) (slice_set (keeper i).pending (same i) None))
+
+-- a seat runs what it ran before a look
+pub ran : {x v : SessionView} {p : PendingCall} → x ≡ v → v.call ≡ Some p → x.call ≡ Some p
+ran seat runs = ap (λ (u : SessionView). u.call) seat ∙ runs
+
+-- What that leaves of the session's call. The keeper knows n then, and the seat y.
+module _ (k n v y : SessionView) (s : ℕ) where
+  -- it runs on as it did
+  pub still_leaves : (p : PendingCall) (answer : Answer) (to : ℕ) → n ≡ k → y ≡ v → slice_get k.pending s ≡ Some v.call → v.call ≡ Some p → LeavesCall s false p answer to k n v y
+  still_leaves p answer to keeper seat at runs = record {
+    log = ap (λ (u : SessionView). u.log) keeper;
+    pending = ap (λ (u : SessionView). u.pending) keeper ∙ sym (set_same k.pending s (Some p) (at ∙ ap Some runs));
+    call = ap (λ (u : SessionView). u.call) seat ∙ runs;
+    calls = ap (λ (u : SessionView). u.calls) seat;
+  }
+
+  -- it is this now
+  pub runs_leaves : (p : PendingCall) (answer : Answer) (to : ℕ) → n ≡ keeper_with k.log (slice_set k.pending s (Some p)) → y.call ≡ Some p → y.calls ≡ v.calls → LeavesCall s false p answer to k n v y
+  runs_leaves p answer to view call calls = record { log = ap (λ (u : SessionView). u.log) view; pending = ap (λ (u : SessionView). u.pending) view; call = call; calls = calls }
+
+  -- ... or it is over
+  pub over_leaves : (p : PendingCall) (answer : Answer) (to : ℕ) → n ≡ keeper_with (k.log ++ completed_of s p answer to ∷ []) (slice_set k.pending s None) → y.call ≡ None
+      → y.calls ≡ v.calls ++ (length k.log, completed_of s p answer to) ∷ [] → LeavesCall s true p answer to k n v y
+  over_leaves p answer to view call calls = record { log = ap (λ (u : SessionView). u.log) view; pending = ap (λ (u : SessionView). u.pending) view; call = call; calls = calls }

@@ -1,6 +1,6 @@
--- What was done for each record and for each job that runs, whatever the pages are: events of its own, from
--- the world as it was handed in.
-use Rattle.std.specs.Prelude.{◌≡◌, ◌⊎◌, ℕ, suc, ◌<◌, false, true, Option, Some, List, [], ◌∷◌, ◌++◌, length, slice_get, vec_capacity}
+-- What was done for each call that is over and for each that runs, whatever the pages are: events of its own,
+-- from the world as it was handed in.
+use Rattle.std.specs.Prelude.{◌≡◌, ◌⊎◌, ℕ, suc, ◌<◌, false, true, Option, Some, List, [], ◌∷◌, ◌++◌, length, slice_get}
 use Rattle.std.specs.List.{AllByRecursion}
 use Rattle.index_model.specs.declared.entry.Entry.{Entry}
 use Rattle.index_model.specs.declared.fault.Fault.{Fault}
@@ -16,25 +16,26 @@ use Rattle.schedule.specs.declared.event.Event.{Event}
 use Rattle.schedule.specs.declared.event.Event.TheVariants.{Step, Next, End, Checkpoint}
 use Rattle.whole_calls.specs.Made.{HasItsRoom}
 use Rattle.whole_calls.specs.OneStep.{cut_short}
-use Rattle.shared_world.specs.declared.job.Job.{Job}
-use Rattle.shared_world.specs.declared.record.Record.{Record}
-use Rattle.shared_world.specs.declared.record.Pending.{Pending}
+use Rattle.session_seats.specs.declared.call.CompletedCall.{CompletedCall}
+use Rattle.session_seats.specs.declared.call.PendingCall.{PendingCall}
+use Rattle.session_seats.specs.declared.job.Job.{Job}
+use Rattle.session_seats.specs.declared.job.Job.TheVariants.{Scan}
 use Rattle.shared_world.specs.Handed.{Handed, IsAsHanded}
-use Rattle.shared_world.specs.Jobs.{event_of, IsRoomOf, IsWithinRoom, ScanIsFull}
+use Rattle.shared_world.specs.Jobs.{event_of, IsWithinRoom}
 use Rattle.shared_world.specs.Transitions.{LockMoment, Transition, IsPath, Owner, OfRecord, OfSession, owned_by, gifts_of}
 
--- no record is made after it
+-- it ends no call
 abbrev pub IsUnrecorded : {S : Type 0} → Transition S → Type 0
 IsUnrecorded t = t.behind.recorded ≡ t.before.recorded
 
--- the record at this place is made after it; so many actions there are then
+-- the call at this place of the log is over after it; so many actions there are then
 pub record MakesRecord {S : Type 0} (g : Ghosts S) (place to : ℕ) (t : Transition S) : Type 0 where
   pub place_is : t.before.recorded ≡ place
   pub next_is : t.behind.recorded ≡ suc place
   pub to_is : (g.state t.behind.here.store).acts ≡ to
 
--- the event that begins the job, or does it whole, if its session runs nothing; so many records and actions
--- there were before
+-- the event that begins the job, or does it whole, if its session runs nothing; so many calls were over and
+-- so many actions there were before
 pub record IsBeginning {S : Type 0} (g : Ghosts S) (session : ℕ) (job : Job) (seen from : ℕ) (answer : Answer) (t : Transition S) : Type 0 where
   pub event_is : t.event ≡ event_of session job
   pub answer_is : t.answer ≡ answer
@@ -54,13 +55,13 @@ EventKeepsCall session (Next of) answer = (of ≡ session) × (is_last answer �
 EventKeepsCall session Checkpoint (Checkpointed count) = Unit {0}
 EventKeepsCall session event answer = ⊥
 
--- ... with no record made
+-- ... and ends no other
 pub record KeepsRunning {S : Type 0} (g : Ghosts S) (session : ℕ) (t : Transition S) : Type 0 where
   pub goes : EventKeepsCall session t.event t.answer
   pub room : HasRoomForStep g t
   pub unrecorded : IsUnrecorded t
 
--- what was done for a job whose call runs: it began, each event since has left it running, and these entries
+-- what was done for a call that runs: it began, each event since has left it running, and these entries
 -- were given
 pub record AreOfRunning {S : Type 0} (g : Ghosts S) (session : ℕ) (job : Job) (seen from : ℕ) (given : List Entry) (ts : List (Transition S)) : Type 0 where
   pub first : Transition S
@@ -72,86 +73,88 @@ pub record AreOfRunning {S : Type 0} (g : Ghosts S) (session : ℕ) (job : Job) 
   pub given_is : given ≡ gifts_of more
 
 -- the last step of a call: the one that gave its last answer
-pub record IsLastStep {S : Type 0} (g : Ghosts S) (place : ℕ) (r : Record) (t : Transition S) : Type 0 where
-  pub event_is : t.event ≡ Step r.worker
+pub record IsLastStep {S : Type 0} (g : Ghosts S) (place : ℕ) (r : CompletedCall) (t : Transition S) : Type 0 where
+  pub event_is : t.event ≡ Step r.session
   pub answer_is : t.answer ≡ r.answer
   pub last : is_last r.answer ≡ true
   pub room : HasRoomForStep g t
   pub makes : MakesRecord g place r.to t
 
--- a scan is given up whose room is full: it had one entry more ready
-pub record IsCutOff {S : Type 0} (g : Ghosts S) (job : Job) (place : ℕ) (r : Record) (t : Transition S) : Type 0 where
-  pub event_is : t.event ≡ End r.worker
+-- a scan that has given these may be left, with so many entries ready: its room isn't full, or it has one
+-- entry more ready
+abbrev pub MayBeLeft : Job → List Entry → ℕ → Type 0
+MayBeLeft (Scan range room) given ready = (length given < room) ⊎ (0 < ready)
+MayBeLeft job given ready = ⊥
+
+-- a scan is left by its session
+pub record IsLeftOff {S : Type 0} (g : Ghosts S) (place : ℕ) (r : CompletedCall) (t : Transition S) : Type 0 where
+  pub event_is : t.event ≡ End r.session
   pub answer_is : t.answer ≡ Ended
   pub told : r.answer ≡ Ended
-  pub full : ScanIsFull job r.given.items
-  pub more : 0 < ready_count (slot_of t.before.here.slots r.worker)
+  pub may : MayBeLeft r.asked r.given (ready_count (slot_of t.before.here.slots r.session))
   pub makes : MakesRecord g place r.to t
 
 -- a checkpoint before a step is refused with a fault, and the call is given up for that
-pub record IsGivenUp {S : Type 0} (g : Ghosts S) (place : ℕ) (r : Record) (c t : Transition S) : Type 0 where
+pub record IsGivenUp {S : Type 0} (g : Ghosts S) (place : ℕ) (r : CompletedCall) (c t : Transition S) : Type 0 where
   pub fault : Fault
   pub checkpoint : c.event ≡ Checkpoint
   pub refused : c.answer ≡ Refused fault
   pub room : HasRoomForStep g c
   pub unrecorded : IsUnrecorded c
-  pub event_is : t.event ≡ End r.worker
-  pub told : r.answer ≡ cut_short (slot_add (slot_of c.before.here.slots r.worker)) fault
+  pub event_is : t.event ≡ End r.session
+  pub told : r.answer ≡ cut_short (slot_add (slot_of c.before.here.slots r.session)) fault
   pub makes : MakesRecord g place r.to t
 
--- what ended the call of a record
-abbrev pub EndsCall : {S : Type 0} → Ghosts S → Job → ℕ → Record → List (Transition S) → Type 0
-EndsCall g job place r (t ∷ []) = IsLastStep g place r t ⊎ IsCutOff g job place r t
-EndsCall g job place r (c ∷ t ∷ []) = IsGivenUp g place r c t
-EndsCall g job place r ts = ⊥
+-- what ended a call
+abbrev pub EndsCall : {S : Type 0} → Ghosts S → ℕ → CompletedCall → List (Transition S) → Type 0
+EndsCall g place r (t ∷ []) = IsLastStep g place r t ⊎ IsLeftOff g place r t
+EndsCall g place r (c ∷ t ∷ []) = IsGivenUp g place r c t
+EndsCall g place r ts = ⊥
 
--- what was done for a record by one event: a commit, a checkpoint, or a beginning that was refused
-pub record IsDoneAtOnce {S : Type 0} (g : Ghosts S) (job : Job) (place : ℕ) (r : Record) (ts : List (Transition S)) : Type 0 where
+-- what was done for a call by one event: a commit, a checkpoint, or a beginning that was refused
+pub record IsDoneAtOnce {S : Type 0} (g : Ghosts S) (place : ℕ) (r : CompletedCall) (ts : List (Transition S)) : Type 0 where
   pub one : Transition S
   pub are : ts ≡ one ∷ []
-  pub begins : IsBeginning g r.worker job r.seen r.from r.answer one
+  pub begins : IsBeginning g r.session r.asked r.seen r.from r.answer one
   pub never : r.answer ≡ Begun → ⊥
-  pub none : r.given.items ≡ []
+  pub none : r.given ≡ []
   pub makes : MakesRecord g place r.to one
 
 -- ... by the events of a call, which ran and has ended
-pub record IsDoneByCall {S : Type 0} (g : Ghosts S) (job : Job) (place : ℕ) (r : Record) (ts : List (Transition S)) : Type 0 where
+pub record IsDoneByCall {S : Type 0} (g : Ghosts S) (place : ℕ) (r : CompletedCall) (ts : List (Transition S)) : Type 0 where
   pub ran : List (Transition S)
   pub last : List (Transition S)
   pub are : ts ≡ ran ++ last
-  pub runs : AreOfRunning g r.worker job r.seen r.from r.given.items ran
-  pub ends : EndsCall g job place r last
+  pub runs : AreOfRunning g r.session r.asked r.seen r.from r.given ran
+  pub ends : EndsCall g place r last
 
--- these were done for the record at this place, and nothing else; it gave no more than its room holds
-pub record AreOfRecord {S : Type 0} (g : Ghosts S) (jobs : List Job) (place : ℕ) (r : Record) (ts : List (Transition S)) : Type 0 where
-  pub job : Job
-  pub job_is : slice_get jobs r.job ≡ Some job
-  pub most : IsWithinRoom job r.given.items
-  pub done : IsDoneAtOnce g job place r ts ⊎ IsDoneByCall g job place r ts
+-- these were done for the call at this place of the log, and nothing else; it gave no more than its room
+-- holds
+pub record AreOfRecord {S : Type 0} (g : Ghosts S) (place : ℕ) (r : CompletedCall) (ts : List (Transition S)) : Type 0 where
+  pub most : IsWithinRoom r.asked r.given
+  pub done : IsDoneAtOnce g place r ts ⊎ IsDoneByCall g place r ts
 
--- ... for the job that a session runs, which has a room of its size
-pub record AreOfPending {S : Type 0} (g : Ghosts S) (jobs : List Job) (session : ℕ) (p : Pending) (ts : List (Transition S)) : Type 0 where
-  pub job : Job
-  pub job_is : slice_get jobs p.job ≡ Some job
-  pub room : IsRoomOf job (vec_capacity p.given)
-  pub runs : AreOfRunning g session job p.seen p.from p.given.items ts
+-- ... for the call that a session runs
+pub record AreOfPending {S : Type 0} (g : Ghosts S) (session : ℕ) (p : PendingCall) (ts : List (Transition S)) : Type 0 where
+  pub most : IsWithinRoom p.asked p.given
+  pub runs : AreOfRunning g session p.asked p.seen p.from p.given ts
 
--- it is a record that is there, or a job that runs
-abbrev pub IsKnown : List (Option Pending) → List Record → Owner → Type 0
-IsKnown pending records (OfRecord place) = place < length records
-IsKnown pending records (OfSession session) = (p : Pending) × (slice_get pending session ≡ Some (Some p))
+-- it is a call that is over, or one that runs
+abbrev pub IsKnown : List (Option PendingCall) → List CompletedCall → Owner → Type 0
+IsKnown pending log (OfRecord place) = place < length log
+IsKnown pending log (OfSession session) = (p : PendingCall) × (slice_get pending session ≡ Some (Some p))
 
--- Transitions lead from the world as it was handed in to what it is now. Each belongs to a record or to a job
--- that runs. Those of a record are its job done, with its answer, its given entries and its interval. Those
--- of a job that runs are its call so far.
-pub record HasActed {S : Type 0} (g : Ghosts S) (handed : Handed) (jobs : List Job) (now : StoreAndSlots S) (pending : List (Option Pending)) (records : List Record) : Type 0 where
+-- Transitions lead from the world as it was handed in to what it is now. Each belongs to a call that is over
+-- or to one that runs. Those of one that is over are what it was asked, done, with its answer, its given
+-- entries and its interval. Those of one that runs are the call so far.
+pub record HasActed {S : Type 0} (g : Ghosts S) (handed : Handed) (now : StoreAndSlots S) (pending : List (Option PendingCall)) (log : List CompletedCall) : Type 0 where
   pub first : LockMoment S
   pub transitions : List (Transition S)
   pub owners : List Owner
   pub handed_in : IsAsHanded g handed first.here
   pub unrecorded : first.recorded ≡ 0
-  pub path : IsPath g first transitions (record { here = now; recorded = length records })
+  pub path : IsPath g first transitions (record { here = now; recorded = length log })
   pub long : length owners ≡ length transitions
-  pub known : AllByRecursion (IsKnown pending records) owners
-  pub recorded : (place : ℕ) (r : Record) → slice_get records place ≡ Some r → AreOfRecord g jobs place r (owned_by (OfRecord place) owners transitions)
-  pub running : (session : ℕ) (p : Pending) → slice_get pending session ≡ Some (Some p) → AreOfPending g jobs session p (owned_by (OfSession session) owners transitions)
+  pub known : AllByRecursion (IsKnown pending log) owners
+  pub recorded : (place : ℕ) (r : CompletedCall) → slice_get log place ≡ Some r → AreOfRecord g place r (owned_by (OfRecord place) owners transitions)
+  pub running : (session : ℕ) (p : PendingCall) → slice_get pending session ≡ Some (Some p) → AreOfPending g session p (owned_by (OfSession session) owners transitions)

@@ -12,8 +12,8 @@ use Rattle.schedule.specs.TheoremKinds.{kind_of}
 use Rattle.schedule.specs.TheoremMoments.{StoreAndSlots}
 use Rattle.schedule.specs.TheoremRuns.{ForEachHistory, EventFollows}
 use Rattle.schedule.specs.declared.event.Event.{Event}
-use Rattle.shared_world.specs.declared.job.Job.{Job}
-use Rattle.shared_world.specs.declared.job.Job.TheVariants.{Scan}
+use Rattle.session_seats.specs.declared.job.Job.{Job}
+use Rattle.session_seats.specs.declared.job.Job.TheVariants.{Scan}
 use Rattle.shared_world.specs.declared.record.Pending.{Pending}
 
 -- the event is done, with this answer
@@ -39,6 +39,7 @@ taken_after (Some answer) given = given_after answer given
 -- a running job has taken what was given, in the same room; if nothing was done, it is as it was
 pub record HasTaken (answer : Option Answer) (before after : Pending) : Type 0 where
   pub job : after.job ≡ before.job
+  pub asked : after.asked ≡ before.asked
   pub from : after.from ≡ before.from
   pub seen : after.seen ≡ before.seen
   pub room : vec_capacity after.given ≡ vec_capacity before.given

@@ -1,13 +1,13 @@
 -- What a job asks for.
-use Rattle.std.specs.Prelude.{◌≡◌, ◌≤◌, ℕ, Option, Some, None, List, length}
+use Rattle.std.specs.Prelude.{◌≡◌, ◌<◌, ◌≤◌, ℕ, Option, Some, None, List, length}
 use Rattle.index_model.specs.declared.entry.Entry.{Entry}
 use Rattle.session_calls.specs.declared.request.Request.{Request}
 use Rattle.session_calls.specs.declared.request.Request.TheVariants.{Insert as ToInsert, Scan as ToScan, Bulk as ToBulk, Cleanup as ToCleanup}
 use Rattle.schedule.specs.TheoremKinds.{Upkeep, Forces, Checkpoints, Kind, kind_of}
 use Rattle.schedule.specs.declared.event.Event.{Event}
 use Rattle.schedule.specs.declared.event.Event.TheVariants.{Insert as BeginInsert, Scan as BeginScan, Bulk as BeginBulk, Cleanup as BeginCleanup, Force, Checkpoint as MakeCheckpoint}
-use Rattle.shared_world.specs.declared.job.Job.{Job}
-use Rattle.shared_world.specs.declared.job.Job.TheVariants.{Insert, Scan, Bulk, Cleanup, Commit, Checkpoint}
+use Rattle.session_seats.specs.declared.job.Job.{Job}
+use Rattle.session_seats.specs.declared.job.Job.TheVariants.{Insert, Scan, Bulk, Cleanup, Commit, Checkpoint}
 
 -- what it asks of a call, if it asks for one
 abbrev pub request_of : Job → Option Request
@@ -50,6 +50,11 @@ IsRoomOf job capacity = capacity ≡ room_of job
 abbrev pub IsWithinRoom : Job → List Entry → Type 0
 IsWithinRoom (Scan range room) given = length given ≤ room
 IsWithinRoom job given = Unit {0}
+
+-- a scan's room holds one entry more
+abbrev pub IsBelowRoom : Job → List Entry → Type 0
+IsBelowRoom (Scan range room) given = length given < room
+IsBelowRoom job given = Unit {0}
 
 -- a scan's room is full
 abbrev pub ScanIsFull : Job → List Entry → Type 0

@@ -1,10 +1,14 @@
 pub mod Acted
+pub mod Booked
 pub mod Doing
 pub mod Ended
 pub mod Handed
 pub mod Jobs
 pub mod Kept
+pub mod Leaving
 pub mod Notes
+pub mod Props
+pub mod Seated
 pub mod Standing
 pub mod Transitions
 pub mod Turns

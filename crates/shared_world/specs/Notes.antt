@@ -1,7 +1,15 @@
--- What the keeper of the seats knows of the records and of the calls that run.
+-- What the keepers of the workers' seats and of the sessions' seats know of the records and of the jobs that
+-- run.
 use Rattle.std.specs.Prelude.{ℕ, List, map, Option, Some, None}
+use Rattle.session_calls.specs.declared.answer.Answer.{Answer}
+use Rattle.session_seats.specs.declared.call.CompletedCall.{CompletedCall}
+use Rattle.session_seats.specs.declared.call.PendingCall.{PendingCall}
 use Rattle.shared_world.specs.declared.record.Record.{Record}
 use Rattle.shared_world.specs.declared.record.Pending.{Pending}
+
+-- the record of a job that is done
+abbrev pub record_of : ℕ → Pending → Answer → ℕ → Record
+record_of worker p answer to = record { worker = worker; job = p.job; asked = p.asked; answer = answer; given = p.given; from = p.from; to = to; seen = p.seen }
 
 -- the worker of a record and its job
 abbrev pub note_of : Record → ℕ × ℕ
@@ -17,3 +25,21 @@ job_of (Some p) = Some p.job
 
 abbrev pub jobs_of : List (Option Pending) → List (Option ℕ)
 jobs_of pending = map job_of pending
+
+-- the call of a record: the worker's session is the worker's number
+abbrev pub completed_call : Record → CompletedCall
+completed_call r = record { session = r.worker; asked = r.asked; answer = r.answer; given = r.given.items; from = r.from; to = r.to; seen = r.seen }
+
+abbrev pub completed_calls : List Record → List CompletedCall
+completed_calls records = map completed_call records
+
+-- the call of a job that runs, if one runs
+abbrev pub pending_call : Pending → PendingCall
+pending_call p = record { asked = p.asked; given = p.given.items; from = p.from; seen = p.seen }
+
+abbrev pub pending_call_of : Option Pending → Option PendingCall
+pending_call_of None = None
+pending_call_of (Some p) = Some (pending_call p)
+
+abbrev pub pending_calls : List (Option Pending) → List (Option PendingCall)
+pending_calls pending = map pending_call_of pending

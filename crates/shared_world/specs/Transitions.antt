@@ -1,15 +1,15 @@
 -- What is done under the lock, event by event: transitions, each beginning where the one before ended.
-use Rattle.std.specs.Prelude.{◌≡◌, ◌==◌, ℕ, Bool, false, if◌then◌else◌, Some, List, [], ◌∷◌, ◌++◌}
+use Rattle.std.specs.Prelude.{◌≡◌, ◌==◌, ℕ, Bool, false, if◌then◌else◌, List, [], ◌∷◌, ◌++◌}
 use Rattle.index_model.specs.declared.entry.Entry.{Entry}
 use Rattle.page_action.specs.declared.page_store.PageStore.{Ghosts}
 use Rattle.session_calls.specs.declared.answer.Answer.{Answer}
-use Rattle.session_calls.specs.declared.answer.Answer.TheVariants.{Gave}
 use Rattle.schedule.specs.Making.{EventEffect}
 use Rattle.schedule.specs.TheoremKinds.{kind_of}
 use Rattle.schedule.specs.TheoremMoments.{StoreAndSlots}
 use Rattle.schedule.specs.declared.event.Event.{Event}
+use Rattle.session_seats.specs.Calls.{gift_of}
 
--- a moment under the lock: the store with its sessions, and how many records there are
+-- a moment under the lock: the store with its sessions, and how many calls are over
 pub record LockMoment (S : Type 0) : Type 0 where
   pub here : StoreAndSlots S
   pub recorded : ℕ
@@ -27,7 +27,7 @@ abbrev pub IsPath : {S : Type 0} → Ghosts S → LockMoment S → List (Transit
 IsPath g first [] last = last ≡ first
 IsPath g first (t ∷ ts) last = (t.before ≡ first) × EventEffect g (kind_of t.event) t.answer t.before.here t.behind.here × IsPath g t.behind ts last
 
--- whose a transition is: that of the record at this place, or of the job that this session runs now
+-- whose a transition is: that of the call at this place of the log, or of the one that this session runs now
 pub data Owner : Type 0 where
   OfRecord : ℕ → Owner
   OfSession : ℕ → Owner
@@ -42,11 +42,6 @@ abbrev pub owned_by : {S : Type 0} → Owner → List Owner → List (Transition
 owned_by owner [] ts = []
 owned_by owner (of ∷ owners) [] = []
 owned_by owner (of ∷ owners) (t ∷ ts) = if is_owner owner of then t ∷ owned_by owner owners ts else owned_by owner owners ts
-
--- the entry that an answer gives, if it gives one
-abbrev pub gift_of : Answer → List Entry
-gift_of (Gave (Some e)) = e ∷ []
-gift_of answer = []
 
 -- the entries that these give, in order
 abbrev pub gifts_of : {S : Type 0} → List (Transition S) → List Entry

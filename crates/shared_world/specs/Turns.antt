@@ -1,17 +1,11 @@
 -- What an event under the lock leaves its worker.
-use Rattle.std.specs.Prelude.{◌≡◌, ◌≤◌, ◌↔◌, ℕ, Bool, true, false, Option, Some, None, List, [], ◌∷◌, ◌++◌, length, slice_get, slice_set, vec_len, vec_capacity}
+use Rattle.std.specs.Prelude.{◌≡◌, ◌≤◌, ◌↔◌, ℕ, Option, Some, None, List, [], ◌∷◌, ◌++◌, length, slice_get, slice_set, vec_len, vec_capacity}
 use Rattle.session_calls.specs.declared.answer.Answer.{Answer}
-use Rattle.session_calls.specs.declared.answer.Answer.TheVariants.{Begun}
 use Rattle.worker_seats.specs.declared.seating.SeatView.{SeatView}
 use Rattle.shared_world.specs.declared.record.Record.{Record}
 use Rattle.shared_world.specs.declared.record.Pending.{Pending}
 use Rattle.shared_world.specs.Doing.{HasTaken}
-use Rattle.shared_world.specs.Kept.{record_of}
-
--- a call has begun
-abbrev pub is_begun : Answer → Bool
-is_begun Begun = true
-is_begun answer = false
+use Rattle.shared_world.specs.Notes.{record_of}
 
 -- this record stands after those that were there, at this place; without a place, none does
 abbrev pub IsRecordedAt : Record → Option ℕ → List Record → List Record → Type 0

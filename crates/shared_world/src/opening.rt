@@ -1,32 +1,57 @@
 //! What lies under the lock as a run begins, and what is taken out at its end.
 
-ghost use Rattle.std.specs.Prelude.{◌≡◌, ◌≤◌, ◌<◌, ◌+◌, [], ℕ, IfSome, None, length, Some, slice_get, vec_len, vec_capacity};
+ghost use Rattle.std.specs.Prelude.{◌≡◌, ◌≤◌, ◌<◌, ◌+◌, [], ℕ, IfSome, None, length, replicate, Some, slice_get, vec_len, vec_capacity};
 ghost use Rattle.crossbeam_queue.specs.Passes.{view};
 ghost use Rattle.worker_seats.specs.Queue.{KnowsAll, jobs_in, sum_over, weigh};
 ghost use Rattle.worker_seats.specs.Seats.{keeper_of, known_by, notes_by};
 ghost use Rattle.world.specs.Worlds.{inside};
-ghost use Rattle.shared_world.specs.Ended.{AreIdle, HasRun};
+ghost use Rattle.shared_world.specs.Ended.{HasRun};
 ghost use Rattle.shared_world.specs.Handed.{IsAsHanded};
+ghost use Rattle.session_seats.specs.Seats.{keeper_with, view_of};
 ghost use Rattle.shared_world.specs.Notes.{jobs_of, notes_of};
-ghost use Rattle.shared_world.specs.Standing.{Stands};
+ghost use Rattle.shared_world.specs.Seated.{IsSeatAt};
+ghost use Rattle.shared_world.specs.Standing.{AreIdle, Stands};
 ghost use Rattle.shared_world.specs.declared.record.Pending.{Pending as WaitingJob};
 
 use crate::jobs::JobsOn;
+use crate::live::Live;
 use crate::record::{Pending, Record};
 use crate::shared::Shared;
 use index_model::DeadRows;
 use page_action::PageStore;
+use session_seats::{SessionDesk, SessionGroup, SessionSeat, open};
 use std::sync::ledger::{Book, Share};
 use worker_seats::{Desk, QueuePass, Seat, tally_up};
 use world::World;
+
+// Opens a seat for each of these sessions, in order.
+fn open_seats<J: SessionGroup>(
+    sessions: &mut SessionDesk<J>,
+    seats: &mut Vec<Option<SessionSeat<J>>>,
+    count: u32,
+)
+    requires first { view_of sessions.old.keeper ≡ keeper_with [] [] }
+    requires empty { seats.old.items ≡ [] }
+    requires room { count ≤ vec_capacity seats.old }
+    ensures keeper { view_of sessions.new.keeper ≡ keeper_with [] (replicate count None) }
+    ensures seats { (session : ℕ) → session < count
+        → IsSeatAt session (Some None) (slice_get seats.new.items session) }
+{
+    for session in 0..count {
+        let seat = open(sessions, session);
+        seats.push_reserved(Some(seat));
+    }
+}
 
 /// What lies under the lock as a run begins: no job is recorded, and none runs.
 pub fn first<S: PageStore, T: DeadRows + Drop, J: JobsOn<S>>(
     world: World<S, T>,
     history: Vec<Record>,
     pending: Vec<Option<Pending>>,
+    mut seats: Vec<Option<SessionSeat<J>>>,
     book: Book<J>,
     desk: Desk<J>,
+    mut sessions: SessionDesk<J>,
 ) -> Shared<S, T, J>
     requires stood { Stands S.PageStore J.stood J.kept_then J.followed (inside T.DeadRows world) }
     requires handed { IsAsHanded S.PageStore J.handed (inside T.DeadRows world) }
@@ -35,20 +60,26 @@ pub fn first<S: PageStore, T: DeadRows + Drop, J: JobsOn<S>>(
     requires enough { length J.jobs ≤ vec_capacity history }
     requires pending { (session : ℕ) (p : WaitingJob)
         → slice_get pending.items session ≡ Some (Some p) → ⊥ }
-    requires seats { vec_len pending ≤ length world.calls.slots.items }
+    requires enough_sessions { vec_len pending ≤ length world.calls.slots.items }
+    requires seats { seats.items ≡ [] }
+    requires for_seats { J.workers ≤ vec_capacity seats }
+    requires few { J.workers ≤ 64 }
     requires workers { vec_len pending ≡ J.workers }
     requires book { book.total ≡ 0 }
     requires keeper { known_by desk.keeper ≡ keeper_of [] (jobs_of pending.items) }
-    ensures world { result.world ≡ world }
-    ensures start { result.start ≡ (S.state world.store).acts }
+    requires sessions { view_of sessions.keeper ≡ keeper_with [] [] }
+    ensures world { result.live.world ≡ world }
+    ensures start { result.live.start ≡ (S.state world.store).acts }
     ensures history { result.history ≡ history }
 {
-    let start = world.actions();
+    let workers = pending.len() as u32;
+    open_seats(&mut sessions, &mut seats, workers);
+    let live = Live::new(world, sessions);
     Shared {
-        world,
-        start,
+        live,
         history,
         pending,
+        seats,
         book,
         desk,
     }
@@ -73,8 +104,8 @@ pub fn ended<S: PageStore, T: DeadRows + Drop, J: JobsOn<S>, X>(
     requires empty { KnowsAll (view pass.now) [] }
     requires popped { (h : ℕ → ℕ) → weigh h (view pass.now).popped
         ≡ sum_over (λ s. weigh h (jobs_in (known_by s.pass).notes)) seats.items }
-    ensures world { result.0 ≡ shared.world }
-    ensures start { result.1 ≡ shared.start }
+    ensures world { result.0 ≡ shared.live.world }
+    ensures start { result.1 ≡ shared.live.start }
     ensures history { result.2 ≡ shared.history }
     ensures notes { (k : ℕ) → IfSome (slice_get seats.items k)
         (λ s. (known_by s.pass).notes ≡ notes_by k (notes_of result.2.items)) }
@@ -82,13 +113,19 @@ pub fn ended<S: PageStore, T: DeadRows + Drop, J: JobsOn<S>, X>(
         result.0 result.1 result.2.items }
 {
     let Shared {
-        world,
-        start,
+        live,
         history,
         pending: _,
+        seats: _,
         mut book,
         mut desk,
     } = shared;
     tally_up(&mut desk, &mut book, seats, all, pass);
+    let Live {
+        world,
+        start,
+        moves: _,
+        desk: _,
+    } = live;
     (world, start, history)
 }

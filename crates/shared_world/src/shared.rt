@@ -1,69 +1,58 @@
 //! What lies under the lock, and each event that is done there.
 
-ghost use Rattle.std.specs.Prelude.{◌≡◌, ◌≢◌, ◌<◌, ◌≤◌, ◌↔◌, ◌++◌, ◌∷◌, [], ℕ, true, false, length, Some, None, IsSome, slice_get, vec_len, vec_capacity};
-ghost use Rattle.page_action.specs.States.{Continues};
+ghost use Rattle.std.specs.Prelude.{◌≡◌, ◌≢◌, ◌<◌, ◌≤◌, ◌↔◌, ◌++◌, ◌∷◌, [], ℕ, true, false, length, Some, None, IsSome, slice_get, slice_set, vec_len, vec_capacity};
 ghost use Rattle.whole_calls.specs.Going.{CallIsRun};
 ghost use Rattle.whole_calls.specs.Made.{IsMadeOf};
 ghost use Rattle.whole_calls.specs.OneStep.{IsMadeAsStep, OneStepAlways, OneStepComesTo, OneStepIsRun};
 ghost use Rattle.worker_seats.specs.Seats.{keeper_of, known_by};
-ghost use Rattle.world.specs.Worlds.{SameSessions, inside};
-ghost use Rattle.shared_world.specs.Acted.{HasActed};
-ghost use Rattle.shared_world.specs.Doing.{HasTaken, IsEventDone, IsFullScan, IsToBeCut, MayBeDone, ended_at, given_after};
-ghost use Rattle.shared_world.specs.Handed.{ComesOf, StillFollows};
+ghost use Rattle.world.specs.Worlds.{inside};
+ghost use Rattle.session_seats.specs.Seats.{view_of};
+ghost use Rattle.shared_world.specs.Booked.{AreBooked};
+ghost use Rattle.shared_world.specs.Doing.{IsEventDone, IsFullScan, IsToBeCut, MayBeDone, ended_at, given_after};
 ghost use Rattle.shared_world.specs.Jobs.{IsRoomOf, event_of};
-ghost use Rattle.shared_world.specs.Kept.{KeepsAll, MatchesPending, record_of};
-ghost use Rattle.shared_world.specs.Notes.{notes_of, jobs_of};
-ghost use Rattle.shared_world.specs.Turns.{JobBeginMeans, SeatMeans, SitsOn, TakeMeans, TurnMeans, is_begun};
+ghost use Rattle.shared_world.specs.Notes.{completed_calls, jobs_of, notes_of, pending_calls, record_of};
+ghost use Rattle.shared_world.specs.Props.{AreBooked-prop, AreSeated-prop};
+ghost use Rattle.shared_world.specs.Seated.{AreSeated, HoldsSeat};
+ghost use Rattle.shared_world.specs.Turns.{JobBeginMeans, SeatMeans, SitsOn, TakeMeans, TurnMeans};
 
-use crate::job::Job;
 use crate::jobs::{Jobs, JobsOn};
+use crate::live::{Live, SessionTurn};
 use crate::record::{Pending, Record};
 use index_model::{DeadRows, Entry};
 use page_action::PageStore;
-use schedule::{Event, one_call_runs, ready_entries_may_come_next, refused_calls_fit};
+use schedule::Event;
 use session_calls::Answer;
+use session_seats::{Job, SessionGroup, SessionSeat};
 use std::sync::ledger::Book;
 use worker_seats::{Desk, Seat, check, end, start};
-use world::World;
 
-/// What lies under the lock. Its facts hold at each release.
+/// What lies under the lock of a run of jobs. Its facts hold at each release.
 #[derive(Drop)]
 pub struct Shared<S: PageStore, T: DeadRows + Drop, J: JobsOn<S>> {
-    pub world: World<S, T>,
-    /// How many actions there were as the run began.
-    pub start: u64,
+    pub live: Live<S, T, J>,
     pub history: Vec<Record>,
     pub pending: Vec<Option<Pending>>,
+    /// The seats of the workers' sessions: of worker w, that of session w.
+    pub seats: Vec<Option<SessionSeat<J>>>,
     pub book: Book<J>,
     pub desk: Desk<J>,
-    pub ghost kept: { ∥ KeepsAll S.PageStore J.stood J.kept_then J.jobs (inside T.DeadRows world) start pending.items history.items ∥₁ },
-    pub ghost acted: { ∥ HasActed S.PageStore J.handed J.jobs (inside T.DeadRows world) pending.items history.items ∥₁ },
-    pub ghost matches: { ∥ MatchesPending world.calls.slots.items pending.items ∥₁ },
-    pub ghost seats: { vec_len pending ≤ length world.calls.slots.items },
+    pub ghost told: { (view_of live.desk.keeper).log ≡ completed_calls history.items },
+    pub ghost runs: { (view_of live.desk.keeper).pending ≡ pending_calls pending.items },
+    pub ghost booked: { AreBooked J.jobs pending.items history.items } by { AreBooked-prop J.jobs pending.items history.items },
+    pub ghost seated: { AreSeated J.workers pending.items seats.items } by { AreSeated-prop J.workers pending.items seats.items },
     pub ghost workers: { vec_len pending ≡ J.workers },
-    pub ghost handed: { ∥ ComesOf S.PageStore J.handed start (inside T.DeadRows world) ∥₁ },
     pub ghost enough: { length J.jobs ≤ vec_capacity history },
-    pub ghost steps: { ∥ StillFollows S.PageStore J.followed world.store ∥₁ },
     pub ghost counted: { book.total ≡ vec_len history },
     pub ghost knows: { known_by desk.keeper ≡ keeper_of (notes_of history.items) (jobs_of pending.items) },
 }
 
-/// What an event under the lock leaves its worker: its seat, the answer, and the place of the record, if it made one.
+/// What an event under the lock leaves its worker: its seat, the answer, and the place of the record, if it
+/// made one.
 #[derive(Drop)]
 pub struct Turn<J: Jobs> {
     pub seat: Seat<J>,
     pub answer: Answer,
     pub place: Option<u64>,
-}
-
-// Whether a call has begun.
-fn is_begun(answer: &Answer) -> bool
-    ensures { result ≡ is_begun answer.now }
-{
-    match answer {
-        Answer::Begun => true,
-        _ => false,
-    }
 }
 
 // What an event leaves its worker.
@@ -79,12 +68,32 @@ fn told<J: Jobs>(seat: Seat<J>, answer: Answer, place: Option<u64>) -> Turn<J>
     }
 }
 
+// A job that is to run.
+fn running(job: u32, asked: &Job, given: Vec<Entry>, from: u64, seen: u64) -> Pending
+    ensures { result ≡ (record {
+      job = job;
+      asked = asked.now;
+      given = given;
+      from = from;
+      seen = seen;
+    }) }
+{
+    Pending {
+        job,
+        asked: *asked,
+        given,
+        from,
+        seen,
+    }
+}
+
 // The record of a job that is done.
 fn record(worker: u32, done: Pending, answer: &Answer, to: u64) -> Record
     ensures { result ≡ record_of worker done answer.now to }
 {
     let Pending {
         job,
+        asked,
         given,
         from,
         seen,
@@ -92,6 +101,7 @@ fn record(worker: u32, done: Pending, answer: &Answer, to: u64) -> Record
     Record {
         worker,
         job,
+        asked,
         answer: *answer,
         given,
         from,
@@ -112,26 +122,28 @@ fn keep_gift(given: &mut Vec<Entry>, answer: &Answer)
     }
 }
 
-// The next entry of the session's call, put after those that it has given. If their room is full, nothing is done.
-fn take_next<S: PageStore, T: DeadRows + Drop>(
-    world: &mut World<S, T>,
-    session: u32,
-    running: &mut Pending,
-) -> Option<Answer>
-    ensures steps { Continues S.follows world.old.store world.new.store }
-    ensures same { SameSessions world.old world.new }
-    ensures event { MayBeDone S.PageStore (Event.Next session) result
-        (inside T.DeadRows world.old) (inside T.DeadRows world.new) }
-    ensures taken { HasTaken result running.old running.new }
-    ensures full { (result ≡ None)
-        ↔ (vec_capacity running.old.given ≤ vec_len running.old.given) }
+// Takes the seat at this place out.
+fn take_seat<J: SessionGroup>(seats: &mut Vec<Option<SessionSeat<J>>>, place: u32) -> SessionSeat<J>
+    requires there { HoldsSeat (slice_get seats.old.items place) }
+    ensures seat { slice_get seats.old.items place ≡ Some (Some result) }
+    ensures taken { seats.new.items ≡ slice_set seats.old.items place None }
 {
-    if running.given.len() >= running.given.capacity() {
-        return None;
-    }
-    let answer = world.one(Event::Next(session));
-    keep_gift(&mut running.given, &answer);
-    Some(answer)
+    let Some(seat) = seats[place as usize].take() else {
+        unreachable!()
+    };
+    seat
+}
+
+// Puts a seat back at its place.
+fn put_seat<J: SessionGroup>(
+    seats: &mut Vec<Option<SessionSeat<J>>>,
+    place: u32,
+    seat: SessionSeat<J>,
+)
+    requires inside { place < length seats.old.items }
+    ensures put { seats.new.items ≡ slice_set seats.old.items place (Some seat) }
+{
+    seats[place as usize] = Some(seat);
 }
 
 // Whether the job is a scan whose room is full, and which has an entry ready.
@@ -151,23 +163,9 @@ fn is_full(asked: Job, running: &Option<Pending>, ready: u32) -> bool
     }
 }
 
-// The event that begins a job: of a commit or a checkpoint the whole of it.
-fn beginning(session: u32, job: Job) -> Event
-    ensures { result ≡ event_of session job }
-{
-    match job {
-        Job::Insert(entry) => Event::Insert(session, entry),
-        Job::Scan { range, .. } => Event::Scan(session, range),
-        Job::Bulk(set) => Event::Bulk(session, set),
-        Job::Cleanup => Event::Cleanup(session),
-        Job::Commit => Event::Force,
-        Job::Checkpoint => Event::Checkpoint,
-    }
-}
-
 impl<S: PageStore, T: DeadRows + Drop, J: JobsOn<S>> Shared<S, T, J> {
-    /// Begins a job: a call of the worker's session, or a commit or a checkpoint, which is done whole. Where that is refused,
-    /// and after a commit and a checkpoint, it is recorded, and has its place.
+    /// Begins a job: a call of the worker's session, or a commit or a checkpoint, which is done whole. Where
+    /// that is refused, and after a commit and a checkpoint, it is recorded, and has its place.
     pub fn begin(&mut self, seat: Seat<J>, job: u32, asked: Job, given: Vec<Entry>) -> Turn<J>
         requires idle { (known_by seat.pass).job ≡ None }
         requires job { slice_get J.jobs job ≡ Some asked }
@@ -175,15 +173,16 @@ impl<S: PageStore, T: DeadRows + Drop, J: JobsOn<S>> Shared<S, T, J> {
         requires holds { IsRoomOf asked (vec_capacity given) }
         requires room { vec_len self.old.history < vec_capacity self.old.history }
         ensures worker { result.seat.worker ≡ seat.worker }
-        ensures start { self.new.start ≡ self.old.start }
+        ensures start { self.new.live.start ≡ self.old.live.start }
         ensures capacity { vec_capacity self.new.history ≡ vec_capacity self.old.history }
         ensures event { IsEventDone S.PageStore (event_of seat.worker asked) result.answer
-            (inside T.DeadRows self.old.world) (inside T.DeadRows self.new.world) }
+            (inside T.DeadRows self.old.live.world) (inside T.DeadRows self.new.live.world) }
         ensures told { JobBeginMeans seat.worker
             (record {
               job = job;
+              asked = asked;
               given = given;
-              from = (S.state self.old.world.store).acts;
+              from = (S.state self.old.live.world.store).acts;
               seen = length self.old.history.items;
             }) result.answer result.place
             self.old.history.items self.new.history.items
@@ -191,161 +190,164 @@ impl<S: PageStore, T: DeadRows + Drop, J: JobsOn<S>> Shared<S, T, J> {
         ensures seat { SeatMeans job result.place (known_by seat.pass) (known_by result.seat.pass) }
     {
         let worker = seat.worker;
-        let from = self.world.actions();
+        let from = self.live.world.actions();
         let seen = self.history.len() as u64;
         let Shared {
-            world,
-            start: _,
+            live,
             history,
             pending,
+            seats,
             book,
             desk,
         } = self;
-        refused_calls_fit::<S>();
+        let running = running(job, &asked, given, from, seen);
         let seat = check(desk, seat);
-        let answer = world.one(beginning(worker, asked));
-        if is_begun(&answer) {
-            pending[worker as usize] = Some(Pending {
-                job,
-                given,
-                from,
-                seen,
-            });
-            let seat = start(desk, seat, job);
-            return told(seat, answer, None);
+        let turn = live.begin(take_seat(seats, worker), asked);
+        let SessionTurn {
+            seat: session,
+            answer,
+            over,
+        } = turn;
+        put_seat(seats, worker, session);
+        if over {
+            history.push_reserved(record(worker, running, &answer, from));
+            let seat = end(desk, book, seat, job);
+            return told(seat, answer, Some(seen));
         }
-        let done = Pending {
-            job,
-            given,
-            from,
-            seen,
-        };
-        history.push_reserved(record(worker, done, &answer, from));
-        let seat = end(desk, book, seat, job);
-        told(seat, answer, Some(seen))
+        pending[worker as usize] = Some(running);
+        let seat = start(desk, seat, job);
+        told(seat, answer, None)
     }
 
-    /// A step of the session's call, with the checkpoint before it for which the log has too little room. If its answer is the
-    /// last, it is recorded, and has its place; if it is blocked, it goes on.
+    /// A step of the session's call, with the checkpoint before it for which the log has too little room. If
+    /// its answer is the last, it is recorded, and has its place; if it is blocked, it goes on.
     pub fn step(&mut self, seat: Seat<J>, job: u32) -> Turn<J>
         requires runs { (known_by seat.pass).job ≡ Some job }
         requires room { vec_len self.old.history < vec_capacity self.old.history }
         ensures worker { result.seat.worker ≡ seat.worker }
-        ensures start { self.new.start ≡ self.old.start }
+        ensures start { self.new.live.start ≡ self.old.live.start }
         ensures capacity { vec_capacity self.new.history ≡ vec_capacity self.old.history }
         ensures goes { CallIsRun S.PageStore seat.worker
             (OneStepIsRun S.PageStore seat.worker 5 result.answer) None
-            (inside T.DeadRows self.old.world) (inside T.DeadRows self.new.world) }
+            (inside T.DeadRows self.old.live.world) (inside T.DeadRows self.new.live.world) }
         ensures made { IsMadeOf S.PageStore seat.worker 5 (OneStepComesTo result.answer)
-            (inside T.DeadRows self.old.world) (inside T.DeadRows self.new.world) }
+            (inside T.DeadRows self.old.live.world) (inside T.DeadRows self.new.live.world) }
         ensures events { IsMadeAsStep S.PageStore seat.worker 5 result.answer
-            (inside T.DeadRows self.old.world) (inside T.DeadRows self.new.world) }
+            (inside T.DeadRows self.old.live.world) (inside T.DeadRows self.new.live.world) }
         ensures always { OneStepAlways S.PageStore seat.worker result.answer
-            (inside T.DeadRows self.old.world) (inside T.DeadRows self.new.world) }
+            (inside T.DeadRows self.old.live.world) (inside T.DeadRows self.new.live.world) }
         ensures told { TurnMeans seat.worker job result.answer
-            (S.state self.new.world.store).acts result.place self.old.history.items
+            (S.state self.new.live.world.store).acts result.place self.old.history.items
             self.new.history.items self.old.pending.items self.new.pending.items }
         ensures seat { SeatMeans job result.place (known_by seat.pass) (known_by result.seat.pass) }
     {
         let worker = seat.worker;
         let Shared {
-            world,
-            start: _,
+            live,
             history,
             pending,
+            seats,
             book,
             desk,
         } = self;
-        one_call_runs::<S>();
         let seat = check(desk, seat);
-        let answer = world.take_step(worker, 5);
-        // It runs on exactly if the answer isn't the last.
-        if world.is_running(worker) {
-            return told(seat, answer, None);
+        let turn = live.step(take_seat(seats, worker));
+        let SessionTurn {
+            seat: session,
+            answer,
+            over,
+        } = turn;
+        put_seat(seats, worker, session);
+        if over {
+            let to = live.world.actions();
+            let place = history.len() as u64;
+            let Some(done) = pending[worker as usize].take() else {
+                unreachable!()
+            };
+            let own = done.job;
+            history.push_reserved(record(worker, done, &answer, to));
+            let seat = end(desk, book, seat, own);
+            return told(seat, answer, Some(place));
         }
-        let to = world.actions();
-        let place = history.len() as u64;
-        let Some(done) = pending[worker as usize].take() else {
-            unreachable!()
-        };
-        let own = done.job;
-        history.push_reserved(record(worker, done, &answer, to));
-        let seat = end(desk, book, seat, own);
-        told(seat, answer, Some(place))
+        told(seat, answer, None)
     }
 
-    /// Asks the session's call for its next entry, which is put after those that it has given. If their room is full, nothing
-    /// is done, and there is no answer.
+    /// Asks the session's call for its next entry, which is put after those that it has given. If their room
+    /// is full, nothing is done, and there is no answer.
     pub fn next(&mut self, seat: Seat<J>, job: u32) -> (Seat<J>, Option<Answer>)
         requires runs { (known_by seat.pass).job ≡ Some job }
         ensures worker { result.0.worker ≡ seat.worker }
-        ensures start { self.new.start ≡ self.old.start }
+        ensures start { self.new.live.start ≡ self.old.live.start }
         ensures history { self.new.history ≡ self.old.history }
         ensures event { MayBeDone S.PageStore (Event.Next seat.worker) result.1
-            (inside T.DeadRows self.old.world) (inside T.DeadRows self.new.world) }
+            (inside T.DeadRows self.old.live.world) (inside T.DeadRows self.new.live.world) }
         ensures told { TakeMeans seat.worker job result.1
             self.old.pending.items self.new.pending.items }
         ensures seat { SitsOn job (known_by seat.pass) (known_by result.0.pass) }
     {
         let worker = seat.worker;
         let Shared {
-            world,
-            start: _,
+            live,
             history: _,
             pending,
+            seats,
             book: _,
             desk,
         } = self;
-        one_call_runs::<S>();
         let seat = check(desk, seat);
         let Some(mut running) = pending[worker as usize].take() else {
             unreachable!()
         };
-        let answer = take_next(world, worker, &mut running);
+        if running.given.len() >= running.given.capacity() {
+            pending[worker as usize] = Some(running);
+            return (seat, None);
+        }
+        let (session, answer) = live.next(take_seat(seats, worker));
+        put_seat(seats, worker, session);
+        keep_gift(&mut running.given, &answer);
         pending[worker as usize] = Some(running);
-        (seat, answer)
+        (seat, Some(answer))
     }
 
-    /// Gives the call of the session's scan up, if its room is full and it has an entry more ready: it is recorded with what it
-    /// gave, and has its place. Else nothing is done.
+    /// Gives the call of the session's scan up, if its room is full and it has an entry more ready: it is
+    /// recorded with what it gave, and has its place. Else nothing is done.
     pub fn end(&mut self, seat: Seat<J>, job: u32, asked: Job) -> (Seat<J>, Option<u64>)
         requires runs { (known_by seat.pass).job ≡ Some job }
         requires job { slice_get J.jobs job ≡ Some asked }
         requires room { vec_len self.old.history < vec_capacity self.old.history }
         ensures worker { result.0.worker ≡ seat.worker }
-        ensures start { self.new.start ≡ self.old.start }
+        ensures start { self.new.live.start ≡ self.old.live.start }
         ensures capacity { vec_capacity self.new.history ≡ vec_capacity self.old.history }
         ensures event { MayBeDone S.PageStore (Event.End seat.worker) (ended_at result.1)
-            (inside T.DeadRows self.old.world) (inside T.DeadRows self.new.world) }
+            (inside T.DeadRows self.old.live.world) (inside T.DeadRows self.new.live.world) }
         ensures exactly { IsSome result.1 ↔ IsToBeCut asked seat.worker
-            self.old.pending.items self.old.world.calls.slots.items }
+            self.old.pending.items self.old.live.world.calls.slots.items }
         ensures told { TurnMeans seat.worker job Answer.Ended
-            (S.state self.new.world.store).acts result.1 self.old.history.items
+            (S.state self.new.live.world.store).acts result.1 self.old.history.items
             self.new.history.items self.old.pending.items self.new.pending.items }
         ensures seat { SeatMeans job result.1 (known_by seat.pass) (known_by result.0.pass) }
     {
         let worker = seat.worker;
         let Shared {
-            world,
-            start: _,
+            live,
             history,
             pending,
+            seats,
             book,
             desk,
         } = self;
-        one_call_runs::<S>();
-        ready_entries_may_come_next::<S>();
         let seat = check(desk, seat);
-        let ready = world.ready(worker);
+        let ready = live.world.ready(worker);
         if is_full(asked, &pending[worker as usize], ready) {
-            let answer = world.one(Event::End(worker));
-            let until = world.actions();
+            let session = live.end(take_seat(seats, worker));
+            put_seat(seats, worker, session);
+            let until = live.world.actions();
             let place = history.len() as u64;
             let Some(done) = pending[worker as usize].take() else {
                 unreachable!()
             };
             let own = done.job;
-            history.push_reserved(record(worker, done, &answer, until));
+            history.push_reserved(record(worker, done, &Answer::Ended, until));
             let seat = end(desk, book, seat, own);
             return (seat, Some(place));
         }

@@ -5,9 +5,10 @@ ghost use Rattle.std.specs.Prelude.{◌≡◌, ◌≤◌, ◌<◌, ◌+◌, ◌�
 ghost use Rattle.index_model.specs.Actions.{Action};
 ghost use Rattle.index_model.specs.Calls.{Call};
 ghost use Rattle.index_model.specs.declared.entry.Entry.{Entry as OneEntry};
+ghost use Rattle.session_seats.specs.Seats.{IsSessionCell, keeper_with, view_of};
 ghost use Rattle.worker_seats.specs.Seats.{IsCellOf, keeper_of, known_by};
 ghost use Rattle.world.specs.Worlds.{WorldFits, WorldKeeps, inside};
-ghost use Rattle.shared_world.specs.Ended.{AreIdle};
+ghost use Rattle.shared_world.specs.Standing.{AreIdle};
 ghost use Rattle.shared_world.specs.Handed.{handed_of, IsAsHanded};
 ghost use Rattle.shared_world.specs.Jobs.{room_of};
 ghost use Rattle.shared_world.specs.Standing.{Stands};
@@ -15,6 +16,7 @@ ghost use Rattle.shared_world.specs.Standing.{Stands};
 use index_model::{DeadRows, Fault};
 use page_action::PageStore;
 use session_calls::Answer;
+use session_seats::{SessionCell, SessionDesk, SessionPass, SessionSeat};
 use shared_world::{Job, Jobs, JobsOn, Pending, Record, Shared, Turn, first};
 use std::alloc::Global;
 use std::marker::Brand;
@@ -290,10 +292,12 @@ fn is_idle<S: PageStore, T: DeadRows + Drop>(world: &World<S, T>) -> bool
 // What lies under the lock as so many workers begin, and the workers, whose sessions run nothing.
 fn seated<S: PageStore, T: DeadRows + Drop, J: JobsOn<S>>(
     mut desk: Desk<J>,
+    sessions: SessionDesk<J>,
     blank: Blank,
     world: World<S, T>,
     history: Vec<Record>,
     mut pending: Vec<Option<Pending>>,
+    session_seats: Vec<Option<SessionSeat<J>>>,
     mut hands: Vec<Option<Hand<J>>>,
     workers: u32,
 ) -> (Shared<S, T, J>, Vec<Option<Hand<J>>>)
@@ -304,12 +308,14 @@ fn seated<S: PageStore, T: DeadRows + Drop, J: JobsOn<S>>(
     requires handed { IsAsHanded S.PageStore J.handed (inside T.DeadRows world) }
     requires stood { Stands S.PageStore J.stood J.kept_then J.followed (inside T.DeadRows world) }
     requires knows { known_by desk.keeper ≡ keeper_of [] [] }
+    requires none_known { view_of sessions.keeper ≡ keeper_with [] [] }
     requires few { workers ≤ 64 }
     requires sessions { workers ≤ length world.calls.slots.items }
     requires rests { AreIdle world.calls.slots.items }
     requires history { history.items ≡ [] }
     requires enough { length J.jobs ≤ vec_capacity history }
     requires pending { (pending.items ≡ []) × (workers ≤ vec_capacity pending) }
+    requires seats { (session_seats.items ≡ []) × (workers ≤ vec_capacity session_seats) }
     requires hands { (hands.items ≡ []) × (workers ≤ vec_capacity hands) }
 {
     let (book, mut all) = blank.open::<J>();
@@ -319,7 +325,16 @@ fn seated<S: PageStore, T: DeadRows + Drop, J: JobsOn<S>>(
         pending.push_reserved(None);
         hands.push_reserved(Some(Hand::Rests(Resting { seat })));
     }
-    (first(world, history, pending, book, desk), hands)
+    let shared = first(
+        world,
+        history,
+        pending,
+        session_seats,
+        book,
+        desk,
+        sessions,
+    );
+    (shared, hands)
 }
 
 // So many workers, and what they do, event by event.
@@ -339,6 +354,8 @@ fn act_named<
     rt: &R,
     cell: SeatCell,
     keeper: SeatPass,
+    session_cell: SessionCell,
+    session_keeper: SessionPass,
     blank: Blank,
     world: World<S, T>,
     jobs: &[Job],
@@ -348,6 +365,9 @@ fn act_named<
     requires parts { blank.parts ≡ J.parts }
     requires all { blank.parts ≡ 65 }
     requires seats { IsCellOf J.seats cell.shared.table_id }
+    requires session_cell { IsSessionCell J.sessions session_cell.shared.table_id }
+    requires session_keeper { session_keeper.table_id ≡ session_cell.shared.table_id }
+    requires none_known { view_of session_keeper ≡ keeper_with [] [] }
     requires jobs { J.jobs ≡ jobs.now }
     requires workers { J.workers ≡ by.workers }
     requires handed { J.handed ≡ handed_of S.PageStore T.DeadRows world }
@@ -366,17 +386,27 @@ fn act_named<
 {
     let history = Vec::with_capacity(rt.alloc(), jobs.len().max(by.lines.len()))?;
     let pending = Vec::with_capacity(rt.alloc(), by.workers as usize)?;
+    let session_seats = Vec::with_capacity(rt.alloc(), by.workers as usize)?;
     let hands = Vec::with_capacity(rt.alloc(), by.workers as usize)?;
     let desk = Desk::new(cell, keeper);
+    let sessions = SessionDesk::new(session_cell, session_keeper);
     let (mut shared, mut hands) = seated::<S, T, J>(
-        desk, blank, world, history, pending, hands, by.workers,
+        desk,
+        sessions,
+        blank,
+        world,
+        history,
+        pending,
+        session_seats,
+        hands,
+        by.workers,
     );
     act_all(rt, rt.alloc(), &mut shared, jobs, &mut hands, by.lines)?;
     let Shared {
-        world: _,
-        start: _,
+        live: _,
         history,
         pending: _,
+        seats: _,
         book: _,
         desk: _,
     } = shared;
@@ -402,7 +432,20 @@ pub fn act_by_hand<
     let Some((cell, keeper)) = make_cell(rt.alloc()) else {
         return Err(Fail::from(Fault::NoMemory));
     };
+    let Some((session_cell, session_keeper)) = session_seats::make_cell(rt.alloc()) else {
+        return Err(Fail::from(Fault::NoMemory));
+    };
     let blank = Blank::new(65);
     let by = ByHand { workers, lines };
-    act_named::<S, T, Brand, R>(rt, cell, keeper, blank, world, jobs, by)
+    act_named::<S, T, Brand, R>(
+        rt,
+        cell,
+        keeper,
+        session_cell,
+        session_keeper,
+        blank,
+        world,
+        jobs,
+        by,
+    )
 }

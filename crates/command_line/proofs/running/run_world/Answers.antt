@@ -12,6 +12,7 @@ returns-in-Ok-clause-printed g c =
     let ran : IsFinished g.S.PageStore g.T.DeadRows c.args.jobs.now c.args.workers c.args.world done = record {
       kept = e.kept;
       acted = e.acted;
+      booked = e.booked;
       comes = ∥∥₁_map₂ e.later e.sets (λ later sets. record { start_is = e.start; sessions_are = e.sessions; sets_are = sets; later = later });
       steps = e.steps;
       idle = e.idle;

@@ -1,30 +1,31 @@
-use Rattle.std.proofs.Common.{◌∙◌, List, length, sym, ap, subst}
-use Rattle.std.proofs.lemmas.Grind.{merely}
-use Rattle.shared_world.proofs.Imports.{keeper_of, inside, Record, HasActed, KeepsFitting, notes_of, jobs_of}
-use Rattle.shared_world.proofs.Acting.{acts_first}
-use Rattle.shared_world.proofs.Handing.{comes_first}
-use Rattle.shared_world.proofs.Keeping.{keeps_first}
+use Rattle.std.proofs.Common.{◌≡◌, ◌∙◌, Option, length, slice_get, sym, ap, subst, arith}
+use Rattle.shared_world.proofs.Imports.{keeper_of, view_of, Pending, SessionView, AreBooked, IsSeatAt, completed_calls, notes_of, jobs_of}
+use Rattle.shared_world.proofs.Ending.{none_at, none_are, none_long, idle_none, idle_calls, books_none}
 use Rattle.shared_world.proofs.opening.first.Goals as goal
+
+pub new-live-requires-clause-first : goal.new-live-requires-clause-first
+new-live-requires-clause-first g c = ap (λ (v : SessionView). v.log) c.open_seats.ensures.keeper
+
+pub new-live-requires-clause-none : goal.new-live-requires-clause-none
+new-live-requires-clause-none g c session p at = idle_none c.len-workers.result session p (ap (λ (v : SessionView). slice_get v.pending session) (sym c.open_seats.ensures.keeper) ∙ at)
+
+pub new-live-requires-clause-seats : goal.new-live-requires-clause-seats
+new-live-requires-clause-seats g c = omega (arith, c.requires.enough_sessions, c.len-workers.ensures, ap (λ (v : SessionView). length v.pending) c.open_seats.ensures.keeper, none_long c.len-workers.result)
 
 pub invariant_of-result : goal.invariant_of-result
 invariant_of-result g c =
     let empty = c.requires.history in
-    let now = inside g.T.DeadRows c.args.world in
+    let pending = c.args.pending.items in
+    let view = ap (λ d. view_of d.keeper) c.new-live.ensures.desk ∙ c.open_seats.ensures.keeper in
+    let long : c.len-workers.result ≡ length pending = c.len-workers.ensures ∙ c.args.pending.ok.0 in
     record {
-      kept = merely (λ honest contents acts calls stood.
-          subst (λ (h : List Record).
-          KeepsFitting g.S.PageStore g.J.Jobs.jobs contents acts calls (g.J.Jobs.kept_then contents acts calls) now c.actions-start.result c.args.pending.items h) (sym empty)
-          (keeps_first g.S.PageStore g.J.Jobs.jobs contents acts calls (g.J.Jobs.kept_then contents acts calls) now c.actions-start.result
-          c.args.pending.items (c.requires.stood.fits contents acts calls stood)
-          (c.requires.stood.safe contents acts calls stood) (c.actions-start.ensures ∙ (c.requires.stood.fits contents acts calls stood).explains.count) c.requires.pending));
-      acted = merely (subst (λ (h : List Record). HasActed g.S.PageStore g.J.Jobs.handed g.J.Jobs.jobs now c.args.pending.items h) (sym empty)
-          (acts_first g.S.PageStore g.J.Jobs.handed g.J.Jobs.jobs now c.args.pending.items c.requires.handed c.requires.pending));
-      matches = merely (record { runs = λ s p h. absurd (c.requires.pending s p h); rests = λ s h. c.requires.rests s; beyond = λ s l. c.requires.rests s });
-      seats = c.requires.seats;
+      told = ap (λ (v : SessionView). v.log) view ∙ ap completed_calls (sym empty);
+      runs = ap (λ (v : SessionView). v.pending) view ∙ ap idle_calls long ∙ sym (none_are pending c.requires.pending);
+      booked = subst (AreBooked g.J.Jobs.jobs pending) (sym empty) (books_none g.J.Jobs.jobs pending c.requires.pending);
+      seated = λ s l. subst (λ (o : Option (Option Pending)). IsSeatAt s o (slice_get c.open_seats.new.seats.items s)) (sym (none_at pending c.requires.pending s (omega (arith, l, c.requires.workers, c.args.pending.ok.0))))
+          (c.open_seats.ensures.seats s (omega (arith, l, c.requires.workers, c.len-workers.ensures)));
       workers = c.requires.workers;
-      handed = merely (comes_first g.S.PageStore g.met.S.PageStore.laws g.J.Jobs.handed c.actions-start.result now c.actions-start.ensures c.requires.handed);
       enough = c.requires.enough;
-      steps = merely c.requires.stood.follows;
       counted = c.requires.book ∙ sym (c.args.history.ok.0 ∙ ap length empty);
-      knows = c.requires.keeper ∙ ap (λ h. keeper_of (notes_of h) (jobs_of c.args.pending.items)) (sym empty);
+      knows = c.requires.keeper ∙ ap (λ h. keeper_of (notes_of h) (jobs_of pending)) (sym empty);
     }

@@ -6,14 +6,21 @@ use Rattle.tests_threads.proofs.hands.act_by_hand.Given as goal
 abbrev pub ghosts-act_named-J-Jobs : goal.ghosts-act_named-J-Jobs
 ghosts-act_named-J-Jobs g a = record {
   jobs = a.jobs.now;
+  workers = a.by.workers;
+}
+
+abbrev pub ghosts-act_named-J-Origin : goal.ghosts-act_named-J-Origin
+ghosts-act_named-J-Origin g a = record {
   stood = WorldFits g.S.PageStore g.T.DeadRows a.world;
   kept_then = WorldKeeps g.S.PageStore g.T.DeadRows a.world;
-  workers = a.by.workers;
   handed = handed_of g.S.PageStore g.T.DeadRows a.world;
 }
 
-abbrev pub ghosts-act_named-J-JobsOn : goal.ghosts-act_named-J-JobsOn
-ghosts-act_named-J-JobsOn g a = record { followed = λ first. g.S.PageStore.follows first a.world.store }
+abbrev pub ghosts-act_named-J-SessionGroup : goal.ghosts-act_named-J-SessionGroup
+ghosts-act_named-J-SessionGroup g a = record { sessions = a.session_cell.shared.table_id }
+
+abbrev pub ghosts-act_named-J-OriginOn : goal.ghosts-act_named-J-OriginOn
+ghosts-act_named-J-OriginOn g a = record { followed = λ first. g.S.PageStore.follows first a.world.store }
 
 abbrev pub ghosts-act_named-J-Run : goal.ghosts-act_named-J-Run
 ghosts-act_named-J-Run g a = record { seats = a.cell.shared.table_id; queue = no_table }

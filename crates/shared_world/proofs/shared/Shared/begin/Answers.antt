@@ -1,56 +1,112 @@
-use Rattle.std.proofs.Common.{◌++◌, ◌∷◌, [], Some, None, slice_set, refl, sym, ap, ◌∙◌, subst}
-use Rattle.shared_world.proofs.Imports.{Event, keeper_of, inside, Pending, Record, IsEventDone, record_of, notes_of, jobs_of}
-use Rattle.shared_world.proofs.Handing.{is_next}
-use Rattle.shared_world.proofs.Noting.{jobs_of_set, set_same, begun_is, not_begun}
-use Rattle.shared_world.proofs.Sharing.{idle_at, in_order, in_order_recorded}
-use Rattle.shared_world.proofs.Beginning.{begun_leaves, done_leaves}
+use Rattle.std.proofs.Common.{◌≡◌, ◌++◌, ◌∷◌, [], ℕ, Some, None, length, slice_get, slice_set, vec_capacity, refl, sym, ap, ◌∙◌, subst}
+use Rattle.shared_world.specs.Leaving.{call_begun}
+use Rattle.shared_world.proofs.Imports.{IsRoomOf, keeper_of, known_by, event_of, inside, Pending, Record, PendingCall, IsEventDone, record_of, pending_call}
+use Rattle.shared_world.proofs.Noting.{set_same}
+use Rattle.shared_world.proofs.Listing.{length_completed}
+use Rattle.shared_world.proofs.Beginning.{begins_no_end}
+use Rattle.shared_world.proofs.Serving.{keeper_in, idle_at, seat_there, session_is, call_is, leaves_at, place_within, served_on, served_done}
 use Rattle.shared_world.proofs.shared.Shared.begin.Goals as goal
+
+pub take_seat-requires : goal.take_seat-requires
+take_seat-requires g c =
+    let self = c.args.self.now in
+    record { there = seat_there self c.args.seat.worker None (idle_at self c.args.seat.worker c.check-seat.ensures.job c.requires.idle) }
+
+pub begin-turn-requires : goal.begin-turn-requires
+begin-turn-requires g c =
+    let self = c.args.self.now in
+    record { idle = call_is self c.args.seat.worker None (idle_at self c.args.seat.worker c.check-seat.ensures.job c.requires.idle) c.take_seat.result c.take_seat.ensures.seat }
+
+pub put_seat-requires : goal.put_seat-requires
+put_seat-requires g c =
+    let self = c.args.self.now in
+    record { inside = place_within self c.args.seat.worker None (idle_at self c.args.seat.worker c.check-seat.ensures.job c.requires.idle) c.take_seat.result c.take_seat.ensures.seat c.take_seat.ensures.taken }
 
 pub invariant_of-self : goal.invariant_of-self
 invariant_of-self g c =
     let self = c.args.self.now in
-    let one = c.one-answer.ensures in
-    let p : Pending = record { job = c.args.job; given = c.args.given; from = c.actions-from.result; seen = c.len-seen.result } in
-    let idle = idle_at self c.args.seat.worker c.check-seat.ensures.job c.requires.idle in
-    let v = c.check-seat.ensures.keeper ∙ self.knows in
-    let leaves = begun_leaves self c.one-answer.new.self (is_next g.T.DeadRows g.met.S.PageStore.laws one.steps one.same) c.args.seat.worker p idle c.args.asked c.requires.job
-    c.beginning.result c.beginning.ensures c.one-answer.result one.goes one.always c.actions-from.ensures c.len-seen.ensures c.requires.given c.requires.holds
-    (begun_is c.one-answer.result (sym c.is_begun.ensures ∙ c.if-is_begun.true)) in
-    in_order self c.one-answer.new.self leaves refl self.counted
-    (c.start-seat.ensures.keeper ∙ (λ i. keeper_of (v i).log (slice_set (v i).running (c.check-seat.ensures.worker i) (Some c.args.job)))
-    ∙ ap (λ l. keeper_of (notes_of self.history.items) l) (sym (jobs_of_set self.pending.items c.args.seat.worker (Some p))))
+    let w = c.args.seat.worker in
+    let idle = idle_at self w c.check-seat.ensures.job c.requires.idle in
+    let seat = c.take_seat.result in
+    let there = c.take_seat.ensures.seat in
+    let turn = c.begin-turn in
+    let is = session_is self w None idle seat there in
+    let q = c.running-running.result in
+    let e = c.running-running.ensures in
+    let job = ap (λ (x : Pending). x.job) (sym e) in
+    let p : PendingCall = call_begun c.args.asked (g.S.PageStore.state self.live.world.store).acts (length (keeper_in self).log) in
+    let long = ap length self.told ∙ length_completed self.history.items ∙ sym (c.len-seen.ensures ∙ self.history.ok.0) in
+    let same : p ≡ pending_call q = (λ i. record { asked = c.args.asked; given = sym c.requires.given i; from = sym c.actions-from.ensures i; seen = long i }) ∙ ap pending_call (sym e) in
+    let leaves = leaves_at self w None idle seat there c.if-over.true (sym c.actions-from.ensures) turn.ensures.told in
+    let always = subst (λ (n : ℕ). IsEventDone g.S.PageStore (event_of n c.args.asked) turn.result.answer (inside g.T.DeadRows self.live.world) (inside g.T.DeadRows turn.new.self.world)) is turn.ensures.event in
+    served_done self w None idle seat there turn.result.seat c.take_seat.ensures.taken c.put_seat.ensures.put turn.ensures.session q
+    leaves same (subst (λ (x : Pending). slice_get g.J.Jobs.jobs x.job ≡ Some x.asked) (sym e) c.requires.job)
+    (λ e. absurd (begins_no_end g.S.PageStore w c.args.asked turn.result.answer _ _ always.always e))
+    (sym (set_same self.pending.items w None idle)) c.push_reserved.ensures.items c.record.ensures c.push_reserved.ensures.len c.push_reserved.ensures.capacity
+    c.end-seat.ensures.book c.check-seat.ensures.keeper c.check-seat.ensures.worker
+    (c.end-seat.ensures.keeper ∙ (λ i. keeper_of ((known_by c.check-seat.new.desk.keeper).log ++ (c.check-seat.result.worker, job i) ∷ []) (slice_set (known_by c.check-seat.new.desk.keeper).running c.check-seat.result.worker None)))
 
 pub invariant_of-self-2 : goal.invariant_of-self-2
 invariant_of-self-2 g c =
     let self = c.args.self.now in
     let w = c.args.seat.worker in
-    let one = c.one-answer.ensures in
-    let p : Pending = record { job = c.args.job; given = c.args.given; from = c.actions-from.result; seen = c.len-seen.result } in
-    let idle = idle_at self c.args.seat.worker c.check-seat.ensures.job c.requires.idle in
-    let leaves = done_leaves self c.one-answer.new.self (is_next g.T.DeadRows g.met.S.PageStore.laws one.steps one.same) w p idle c.args.asked c.requires.job c.beginning.result
-    c.beginning.ensures c.one-answer.result one.goes one.always c.actions-from.ensures c.len-seen.ensures c.requires.given c.requires.holds c.refused_calls_fit.ensures
-    (not_begun c.one-answer.result (sym c.is_begun.ensures ∙ c.if-is_begun.false)) in
-    in_order_recorded self c.one-answer.new.self w p c.one-answer.result c.actions-from.result self.pending.items leaves
-    (sym (ap jobs_of (set_same self.pending.items w None idle)) ∙ jobs_of_set self.pending.items w None) refl c.push_reserved.ensures.items c.record.ensures c.push_reserved.ensures.len c.push_reserved.ensures.capacity
-    c.end-seat.ensures.book c.check-seat.ensures.keeper c.check-seat.ensures.worker c.end-seat.ensures.keeper
+    let idle = idle_at self w c.check-seat.ensures.job c.requires.idle in
+    let seat = c.take_seat.result in
+    let there = c.take_seat.ensures.seat in
+    let turn = c.begin-turn in
+    let is = session_is self w None idle seat there in
+    let q = c.running-running.result in
+    let e = c.running-running.ensures in
+    let job = ap (λ (x : Pending). x.job) (sym e) in
+    let p : PendingCall = call_begun c.args.asked (g.S.PageStore.state self.live.world.store).acts (length (keeper_in self).log) in
+    let long = ap length self.told ∙ length_completed self.history.items ∙ sym (c.len-seen.ensures ∙ self.history.ok.0) in
+    let same : p ≡ pending_call q = (λ i. record { asked = c.args.asked; given = sym c.requires.given i; from = sym c.actions-from.ensures i; seen = long i }) ∙ ap pending_call (sym e) in
+    let leaves = leaves_at self w None idle seat there c.if-over.false refl turn.ensures.told in
+    let v = c.check-seat.ensures.keeper ∙ self.knows in
+    served_on self w None idle seat there turn.result.seat c.take_seat.ensures.taken c.put_seat.ensures.put turn.ensures.session q leaves same
+    (subst (λ (x : Pending). slice_get g.J.Jobs.jobs x.job ≡ Some x.asked) (sym e) c.requires.job) (subst (λ (x : Pending). IsRoomOf x.asked (vec_capacity x.given)) (sym e) c.requires.holds)
+    refl (c.start-seat.ensures.keeper ∙ (λ i. keeper_of (v i).log (slice_set (v i).running (c.check-seat.ensures.worker i) (Some (job i)))))
 
-pub returns-clause-told : goal.returns-clause-told
-returns-clause-told g c =
+pub returns-then-over-clause-event : goal.returns-then-over-clause-event
+returns-then-over-clause-event g c =
+    let self = c.args.self.now in
+    let w = c.args.seat.worker in
+    let idle = idle_at self w c.check-seat.ensures.job c.requires.idle in
+    let done = subst (λ (n : ℕ). IsEventDone g.S.PageStore (event_of n c.args.asked) c.begin-turn.result.answer (inside g.T.DeadRows self.live.world) (inside g.T.DeadRows c.begin-turn.new.self.world))
+    (session_is self w None idle c.take_seat.result c.take_seat.ensures.seat) c.begin-turn.ensures.event in
+    rw c.told.ensures.answer done
+
+pub returns-clause-event : goal.returns-clause-event
+returns-clause-event g c =
+    let self = c.args.self.now in
+    let w = c.args.seat.worker in
+    let idle = idle_at self w c.check-seat.ensures.job c.requires.idle in
+    let done = subst (λ (n : ℕ). IsEventDone g.S.PageStore (event_of n c.args.asked) c.begin-turn.result.answer (inside g.T.DeadRows self.live.world) (inside g.T.DeadRows c.begin-turn.new.self.world))
+    (session_is self w None idle c.take_seat.result c.take_seat.ensures.seat) c.begin-turn.ensures.event in
+    rw c.told-2.ensures.answer done
+
+pub returns-then-over-clause-told : goal.returns-then-over-clause-told
+returns-then-over-clause-told g c =
     let history = c.args.self.now.history in
+    let w = c.args.seat.worker in
     let from = c.actions-from.ensures in
     let seen = c.len-seen.ensures ∙ history.ok.0 in
-    rw (c.told-2.ensures.answer, c.told-2.ensures.place) (record {
+    rw (c.told.ensures.answer, c.told.ensures.place) (record {
       history = (
         seen,
         c.push_reserved.ensures.items ∙ ap (λ (x : Record). history.items ++ x ∷ [])
-            (c.record.ensures ∙ (λ i. record_of c.args.seat.worker (record { job = c.args.job; given = c.args.given; from = from i; seen = seen i }) c.one-answer.result (from i))),
+            (c.record.ensures ∙ (λ i. record_of w (c.running-running.ensures i) c.begin-turn.result.answer c.actions-from.result)
+            ∙ (λ i. record_of w (record { job = c.args.job; asked = c.args.asked; given = c.args.given; from = from i; seen = seen i }) c.begin-turn.result.answer (from i))),
       );
       pending = refl;
     })
 
-pub returns-clause-event : goal.returns-clause-event
-returns-clause-event g c =
-    let old = inside g.T.DeadRows c.args.self.now.world in
-    let new = inside g.T.DeadRows c.one-answer.new.self in
-    rw c.told-2.ensures.answer (subst (λ (e : Event). IsEventDone g.S.PageStore e c.one-answer.result old new) c.beginning.ensures
-    (record { goes = c.one-answer.ensures.goes; always = c.one-answer.ensures.always }))
+pub returns-clause-told : goal.returns-clause-told
+returns-clause-told g c =
+    let from = c.actions-from.ensures in
+    let seen = c.len-seen.ensures ∙ c.args.self.now.history.ok.0 in
+    rw (c.told-2.ensures.answer, c.told-2.ensures.place) (record {
+      history = refl;
+      pending = ap (λ (x : Pending). slice_set c.args.self.now.pending.items c.args.seat.worker (Some x))
+          (c.running-running.ensures ∙ (λ i. record { job = c.args.job; asked = c.args.asked; given = c.args.given; from = from i; seen = seen i }));
+    })

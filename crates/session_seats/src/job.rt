@@ -1,8 +1,8 @@
-//! Jobs.
+//! What a call is asked.
 
 use index_model::{Entry, Range};
 
-/// What a worker is to do.
+/// What a session is to do.
 #[derive(Clone, Copy)]
 pub enum Job {
     /// To insert the entry.

@@ -1,0 +1,228 @@
+//! A session's seat.
+
+ghost use Rattle.std.specs.Prelude.{◌≡◌, ◌<◌, ◌++◌, ◌∷◌, [], true, length, Some, None, slice_get, slice_set};
+ghost use Rattle.session_seats.specs.Calls.{begun_by, completed_by, given_by};
+ghost use Rattle.session_seats.specs.Seats.{SeatAgrees, when_begun, when_ended, when_given, seated, keeper_part, keeper_with, view_of, calls_by, seat_part, sitting};
+
+use crate::call::Notice;
+use crate::desk::SessionDesk;
+use crate::group::SessionGroup;
+use crate::seating::{Begins, Ends, Gives, Looks, Opens, SessionCell, SessionPass, Sits};
+use std::marker::PhantomData;
+
+/// What a session knows: which call it runs, and which it has had. Whoever has it acts for the session.
+#[derive(Drop)]
+pub struct SessionSeat<J: SessionGroup> {
+    pub session: u32,
+    pub pass: SessionPass,
+    pub of: PhantomData<J>,
+    pub ghost cell: { pass.table_id ≡ J.sessions },
+    pub ghost idle: { pass.me.1 ≡ [] },
+    pub ghost sits: { view_of pass
+        ≡ sitting true session (view_of pass).call (view_of pass).calls },
+}
+
+/// Tells what the seat knows at the keeper's moment.
+pub fn check<J: SessionGroup>(desk: &mut SessionDesk<J>, seat: SessionSeat<J>) -> SessionSeat<J>
+    ensures keeper { view_of desk.new.keeper ≡ view_of desk.old.keeper }
+    ensures call { slice_get (view_of desk.old.keeper).pending seat.session
+        ≡ Some (view_of seat.pass).call }
+    ensures calls { (view_of seat.pass).calls
+        ≡ calls_by seat.session (view_of desk.old.keeper).log }
+    ensures session { result.session ≡ seat.session }
+    ensures view { view_of result.pass ≡ view_of seat.pass }
+{
+    let SessionSeat { session, pass, of } = seat;
+    let SessionDesk {
+        cell,
+        keeper,
+        of: _,
+    } = desk;
+    sit_down(cell, keeper, pass);
+    look(cell, keeper);
+    let pass = leave(cell, keeper);
+    SessionSeat { session, pass, of }
+}
+
+/// The call of the seat's session begins, which is asked what the notice tells.
+pub fn begin<J: SessionGroup>(
+    desk: &mut SessionDesk<J>,
+    seat: SessionSeat<J>,
+    notice: &Notice,
+) -> SessionSeat<J>
+    ensures keeper { view_of desk.new.keeper ≡ keeper_with (view_of desk.old.keeper).log
+        (slice_set (view_of desk.old.keeper).pending seat.session
+        (Some (begun_by notice.now (length (view_of desk.old.keeper).log)))) }
+    ensures session { result.session ≡ seat.session }
+    ensures call { (view_of result.pass).call
+        ≡ Some (begun_by notice.now (length (view_of desk.old.keeper).log)) }
+    ensures calls { (view_of result.pass).calls ≡ (view_of seat.pass).calls }
+{
+    let SessionSeat { session, pass, of } = seat;
+    let SessionDesk {
+        cell,
+        keeper,
+        of: _,
+    } = desk;
+    sit_down(cell, keeper, pass);
+    begin_there(cell, keeper, notice);
+    let pass = leave(cell, keeper);
+    SessionSeat { session, pass, of }
+}
+
+/// The call of the seat's session gives the entry of the notice's answer.
+pub fn gave<J: SessionGroup>(
+    desk: &mut SessionDesk<J>,
+    seat: SessionSeat<J>,
+    notice: &Notice,
+) -> SessionSeat<J>
+    ensures keeper { view_of desk.new.keeper ≡ keeper_with (view_of desk.old.keeper).log
+        (slice_set (view_of desk.old.keeper).pending seat.session
+        (given_by notice.now (view_of seat.pass).call)) }
+    ensures session { result.session ≡ seat.session }
+    ensures call { (view_of result.pass).call ≡ given_by notice.now (view_of seat.pass).call }
+    ensures calls { (view_of result.pass).calls ≡ (view_of seat.pass).calls }
+{
+    let SessionSeat { session, pass, of } = seat;
+    let SessionDesk {
+        cell,
+        keeper,
+        of: _,
+    } = desk;
+    sit_down(cell, keeper, pass);
+    give_there(cell, keeper, notice);
+    let pass = leave(cell, keeper);
+    SessionSeat { session, pass, of }
+}
+
+/// The call of the seat's session ends with the notice's answer, and stands at the end of the log.
+pub fn end<J: SessionGroup>(
+    desk: &mut SessionDesk<J>,
+    seat: SessionSeat<J>,
+    notice: &Notice,
+) -> SessionSeat<J>
+    ensures keeper { view_of desk.new.keeper ≡ keeper_with ((view_of desk.old.keeper).log
+        ++ completed_by seat.session notice.now (view_of seat.pass).call ∷ [])
+        (slice_set (view_of desk.old.keeper).pending seat.session None) }
+    ensures session { result.session ≡ seat.session }
+    ensures call { (view_of result.pass).call ≡ None }
+    ensures calls { (view_of result.pass).calls ≡ (view_of seat.pass).calls
+        ++ (
+          length (view_of desk.old.keeper).log,
+          completed_by seat.session notice.now (view_of seat.pass).call,
+        ) ∷ [] }
+{
+    let SessionSeat { session, pass, of } = seat;
+    let SessionDesk {
+        cell,
+        keeper,
+        of: _,
+    } = desk;
+    sit_down(cell, keeper, pass);
+    end_there(cell, keeper, notice);
+    let pass = leave(cell, keeper);
+    SessionSeat { session, pass, of }
+}
+
+// Brings a seat beside the keeper. (Each call of the cell is in a function of its own: three in one cost the
+// prover six times as much.)
+fn sit_down(cell: &SessionCell, keeper: &mut SessionPass, seat: SessionPass)
+    requires word { 0 < cell.now.shared.table_id.words }
+    requires of { keeper.old.table_id ≡ cell.now.shared.table_id }
+    requires seat { seat.table_id ≡ keeper.old.table_id }
+    requires idle { seat.me.1 ≡ [] }
+    requires keeps { (view_of keeper.old).keeps ≡ true }
+    ensures of { keeper.new.table_id ≡ keeper.old.table_id }
+    ensures both { view_of keeper.new ≡ seated (view_of keeper.old) (view_of seat) }
+{
+    cell.shared.join_seat::<Sits>(keeper, seat);
+}
+
+// Parts the keeper from the seat that is beside it.
+fn leave(cell: &SessionCell, keeper: &mut SessionPass) -> SessionPass
+    requires word { 0 < cell.now.shared.table_id.words }
+    requires of { keeper.old.table_id ≡ cell.now.shared.table_id }
+    requires keeps { (view_of keeper.old).keeps ≡ true }
+    ensures of { keeper.new.table_id ≡ keeper.old.table_id }
+    ensures keeper { view_of keeper.new ≡ keeper_part (view_of keeper.old) }
+    ensures cell { result.table_id ≡ keeper.old.table_id }
+    ensures seat { view_of result ≡ seat_part (view_of keeper.old) }
+    ensures idle { result.me.1 ≡ [] }
+{
+    cell.shared.split_seat::<Sits>(keeper)
+}
+
+// Looks at the cell: the seat beside the keeper fits.
+fn look(cell: &SessionCell, keeper: &mut SessionPass)
+    requires word { 0 < cell.now.shared.table_id.words }
+    requires of { keeper.old.table_id ≡ cell.now.shared.table_id }
+    requires keeps { (view_of keeper.old).keeps ≡ true }
+    ensures of { keeper.new.table_id ≡ keeper.old.table_id }
+    ensures same { view_of keeper.new ≡ view_of keeper.old }
+    ensures fits { (view_of keeper.old).sits ≡ true
+        → SeatAgrees (view_of keeper.old).log (view_of keeper.old).pending (view_of keeper.old) }
+{
+    cell.shared.load::<Looks>(keeper, 0);
+}
+
+// Begins the call of the seat that is beside the keeper. The word stays what it is: only the notice counts.
+fn begin_there(cell: &SessionCell, keeper: &mut SessionPass, notice: &Notice)
+    requires word { 0 < cell.now.shared.table_id.words }
+    requires of { keeper.old.table_id ≡ cell.now.shared.table_id }
+    requires keeps { (view_of keeper.old).keeps ≡ true }
+    requires sits { (view_of keeper.old).sits ≡ true }
+    ensures of { keeper.new.table_id ≡ keeper.old.table_id }
+    ensures known { view_of keeper.new ≡ when_begun (view_of keeper.old) notice.now }
+{
+    cell.shared
+        .compare_exchange_with::<Begins>(keeper, 0, 0, 0, notice);
+}
+
+// Gives an entry of it.
+fn give_there(cell: &SessionCell, keeper: &mut SessionPass, notice: &Notice)
+    requires word { 0 < cell.now.shared.table_id.words }
+    requires of { keeper.old.table_id ≡ cell.now.shared.table_id }
+    requires keeps { (view_of keeper.old).keeps ≡ true }
+    requires sits { (view_of keeper.old).sits ≡ true }
+    ensures of { keeper.new.table_id ≡ keeper.old.table_id }
+    ensures known { view_of keeper.new ≡ when_given (view_of keeper.old) notice.now }
+{
+    cell.shared
+        .compare_exchange_with::<Gives>(keeper, 0, 0, 0, notice);
+}
+
+// Ends it.
+fn end_there(cell: &SessionCell, keeper: &mut SessionPass, notice: &Notice)
+    requires word { 0 < cell.now.shared.table_id.words }
+    requires of { keeper.old.table_id ≡ cell.now.shared.table_id }
+    requires keeps { (view_of keeper.old).keeps ≡ true }
+    requires sits { (view_of keeper.old).sits ≡ true }
+    ensures of { keeper.new.table_id ≡ keeper.old.table_id }
+    ensures known { view_of keeper.new ≡ when_ended (view_of keeper.old) notice.now }
+{
+    cell.shared
+        .compare_exchange_with::<Ends>(keeper, 0, 0, 0, notice);
+}
+
+/// A seat for one session more. No call is over yet.
+pub fn open<J: SessionGroup>(desk: &mut SessionDesk<J>, session: u32) -> SessionSeat<J>
+    requires keeper { view_of desk.old.keeper ≡ keeper_with [] (view_of desk.old.keeper).pending }
+    requires session { session ≡ length (view_of desk.old.keeper).pending }
+    ensures keeper { view_of desk.new.keeper
+        ≡ keeper_with [] ((view_of desk.old.keeper).pending ++ None ∷ []) }
+    ensures session { result.session ≡ session }
+    ensures call { (view_of result.pass).call ≡ None }
+    ensures calls { (view_of result.pass).calls ≡ [] }
+{
+    let SessionDesk {
+        cell,
+        keeper,
+        of: _,
+    } = desk;
+    let pass = cell.shared.split_seat::<Opens>(keeper);
+    SessionSeat {
+        session,
+        pass,
+        of: PhantomData,
+    }
+}
