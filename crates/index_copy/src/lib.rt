@@ -1,8 +1,9 @@
 //! Copying an index into another one.
 #![tactic(auto)]
 
+mod asking;
 mod batch;
-mod copy;
-mod put;
+mod copying;
+mod putting;
 
-pub use copy::{NotCopied, copy};
+pub use copying::{NotCopied, copy};

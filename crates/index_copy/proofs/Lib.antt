@@ -1,0 +1,5 @@
+pub mod Entries
+pub mod Going
+pub mod Asking
+pub mod Seats
+pub mod Copied
