@@ -1,10 +1,15 @@
-use Rattle.std.proofs.Common.{arith, refl, ap, inl, inr, ◌∙◌}
-use Rattle.whole_calls.proofs.Imports.{is_last, runs_on_same, runs_on_then, work_bounded, snapshot_of, slot_of}
+use Rattle.std.proofs.Common.{◌≡◌, ◌⊎◌, ℕ, arith, false, refl, ap, inl, inr, ◌∙◌}
+use Rattle.whole_calls.proofs.Imports.{Answer, Going, Ready, is_last, runs_on_same, runs_on_then, work_bounded, snapshot_of, slot_of}
 use Rattle.whole_calls.proofs.Composing.{is_later, joined, joined_second, goes_nowhere}
 use Rattle.whole_calls.proofs.Made.{made_nowhere, made_last, made_more, made_told}
 use Rattle.whole_calls.proofs.Given.{down_after, down_on}
 use Rattle.whole_calls.proofs.Lasting.{waits_here, waits_then, waits_after, waits_on}
 use Rattle.whole_calls.proofs.giving.seek.Goals as goal
+
+-- an answer that it goes on isn't the last one
+goes_not_last : (answer : Answer) → (answer ≡ Going) ⊎ ((count : ℕ) × (answer ≡ Ready count)) → is_last answer ≡ false
+goes_not_last answer (inl going) = ap is_last going
+goes_not_last answer (inr ready) = ap is_last ready.1
 
 pub loop-left-init : goal.loop-left-init
 loop-left-init g c = record {
@@ -36,7 +41,7 @@ loop-left-preserved g c =
       others = λ o ne. went.others.others o ne ∙ so_far.others o ne;
       runs_on = runs_on_then (slot_of c.args.calls.now.slots.items session) (slot_of c.loop-left.calls.slots.items session) (slot_of c.advance.new.calls.slots.items session)
           so_far.runs_on went.runs_on;
-      lasts = λ runs. went.lasts (ap is_last c.in-Going.is) (so_far.lasts runs);
+      lasts = λ runs. went.lasts (goes_not_last c.advance.result c.in-Going.is) (so_far.lasts runs);
       goes = joined g.met.S.PageStore.laws _ so_far.steps went.steps so_far.goes went.goes (λ xs ys none so. tt)
           (λ start h hc k kc l lc fx fy fz one two. waits_then one (waits_on c.in-Going.is two));
       made = made_more _ _ so_far.made went.made;
