@@ -133,7 +133,7 @@ fn deleted_pages<S: PageStore>(store: &S) -> (u32, u32)
 }
 
 impl<S: PageStore> Index<S> {
-    ghost use Rattle.std.specs.Prelude.{◌≡◌, ◌≢◌, ℕ, List, [], true, false, None, Some, Ok, Err, IfOk, IfErr, IsOk, OnOk, OnErr, OnSome, ◌<◌, length};
+    ghost use Rattle.std.specs.Prelude.{◌≡◌, ◌≢◌, ℕ, List, [], true, false, Option, None, Some, Result, Ok, Err, IfOk, IfErr, IsOk, OnOk, OnErr, OnSome, ◌<◌, length};
     ghost use Rattle.access_method.specs.declared.token.ScanToken.{ScanToken};
     ghost use Rattle.index_model.specs.Formats.{sizes_of};
     ghost use Rattle.vacuum.specs.Counts.{deleted_count, free_count};
