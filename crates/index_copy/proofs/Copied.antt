@@ -16,9 +16,9 @@ use Rattle.access_method.specs.Indexes.{ForEachIndexHistory, has_entry}
 use Rattle.access_method.specs.Scans.{AreTheMatches, BeginTheMatches, NextIs, NextsAre, Rests, ScanBegins}
 use Rattle.access_method.specs.declared.index.Index.{Index}
 use Rattle.access_method.proofs.Scans.{rests_twice}
-use Rattle.index_copy.proofs.Asking.{nexts_to, nexts_twice}
+use Rattle.index_copy.proofs.Nexts.{nexts_to, nexts_twice}
 use Rattle.index_copy.proofs.Entries.{distinct_ascending, one_test, or_left, or_right}
-use Rattle.index_copy.proofs.Going.{gains_twice, honest_before, refused_then}
+use Rattle.index_copy.proofs.Going.{gains_twice, honest_before, refused_more, refused_then}
 use Rattle.index_copy.specs.Batches.{BreaksOff, GivesBatch, batch_len, is_in_batch}
 use Rattle.index_copy.specs.Copies.{CopiesScan, IsCopied, IsRefusedOne, ThenAnswers, WasAsked}
 use Rattle.index_copy.specs.Copying.{Gains, GoesOn, HasKeyTwice, IsRefusedFor}
@@ -115,21 +115,6 @@ module _ {S T : Type 0} (g : Ghosts S) (h : Ghosts T) (laws : Laws h) (session c
       ends = elim (cases_eq (length b.given) 23) [ inl whole ↦ inl (b.whole whole) | inr short ↦ inr (b.ends short) ];
       refused = refused_then h laws into_old into_mid into_new steps goes (is_among copied.given) (is_in_batch batch) (is_among (copied.given ++ b.given)) copied.gains fault refused
           (λ e was. joined e ∙ or_left (is_among copied.given e) (is_in_batch batch e) was) (λ e more. joined e ∙ or_right (is_among copied.given e) (is_in_batch batch e) more);
-    }
-
--- what is refused for some entries, is refused for more
-refused_more : {T : Type 0} (h : Ghosts T) (few all : Entry → Bool) (old : T) (fault : Fault) → ((e : Entry) → few e ≡ true → all e ≡ true) → IsRefusedFor h few old fault → IsRefusedFor h all old fault
-refused_more h few all old fault within refused row is =
-    let twice = refused row is in
-    let other : Entry = with_row twice.entry row in
-    record {
-      entry = twice.entry;
-      is_one = within twice.entry twice.is_one;
-      apart = twice.apart;
-      taken = elim (or_cases (few other) (has_entry h old other) twice.taken) [
-        | inl comes ↦ or_left (all other) (has_entry h old other) (within other comes)
-        | inr was ↦ or_right (all other) (has_entry h old other) was
-      ];
     }
 
 -- a scan of a range that has every entry, as it is known of the index now

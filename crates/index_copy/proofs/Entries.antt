@@ -26,15 +26,16 @@ or_turned true false c = refl
 or_turned false true c = refl
 or_turned false false c = refl
 
-pub or_joined : (a b c d : Bool) → ((a || b) || (c || d)) ≡ ((a || c) || (b || d))
-or_joined true true c d = refl
-or_joined true false true d = refl
-or_joined true false false d = refl
-or_joined false true true d = refl
-or_joined false true false true = refl
-or_joined false true false false = refl
-or_joined false false true d = refl
-or_joined false false false d = refl
+or_last : (a b c : Bool) → ((a || b) || c) ≡ ((a || c) || b)
+or_last true b c = refl
+or_last false true true = refl
+or_last false true false = refl
+or_last false false true = refl
+or_last false false false = refl
+
+or_group : (a b c : Bool) → (a || (b || c)) ≡ ((a || b) || c)
+or_group true b c = refl
+or_group false b c = refl
 
 -- two tests are one if each holds where the other does
 pub one_test : (a b : Bool) → (a ≡ true → b ≡ true) → (b ≡ true → a ≡ true) → a ≡ b
@@ -56,8 +57,30 @@ among_first (suc n) (x ∷ xs) e h =
 pub among_one_more : (xs : List Entry) (x e : Entry) → is_among (xs ++ x ∷ []) e ≡ (is_among xs e || same_entry x e)
 among_one_more xs x e = is_among-append xs (x ∷ []) e ∙ ap (λ (b : Bool). is_among xs e || b) (or_none (same_entry x e))
 
-pub among_next : (xs : List Entry) (i : ℕ) (d e : Entry) → i < length xs → is_among (take (i + 1) xs) e ≡ (is_among (take i xs) e || same_entry (get_or xs i d) e)
-among_next xs i d e h = ap (λ (l : List Entry). is_among l e) (take_more xs i d h) ∙ among_one_more (take i xs) (get_or xs i d) e
+pub among_next : (xs : List Entry) (i : ℕ) (x e : Entry) → i < length xs → x ≡ get_or xs i x → is_among (take (i + 1) xs) e ≡ (is_among (take i xs) e || same_entry x e)
+among_next xs i x e h at =
+    ap (λ (l : List Entry). is_among l e) (take_more xs i x h ∙ ap (λ (y : Entry). take i xs ++ y ∷ []) (sym at)) ∙ among_one_more (take i xs) x e
+
+-- the entry at a place is among them
+pub among_at : (xs : List Entry) (i : ℕ) (x e : Entry) → i < length xs → x ≡ get_or xs i x → same_entry x e ≡ true → is_among xs e ≡ true
+among_at xs i x e h at same = among_first (i + 1) xs e (among_next xs i x e h at ∙ or_right (is_among (take i xs) e) (same_entry x e) same)
+
+-- one more in the first of two lists, or in the other
+pub among_first_too : (after first others : List Entry) (x e : Entry) → after ≡ first ++ x ∷ [] → (is_among after e || is_among others e) ≡ ((is_among first e || is_among others e) || same_entry x e)
+among_first_too after first others x e is =
+    ap (λ (l : List Entry). is_among l e || is_among others e) is ∙ ap (λ (b : Bool). b || is_among others e) (among_one_more first x e)
+    ∙ or_last (is_among first e) (same_entry x e) (is_among others e)
+
+pub among_others_too : (after first others : List Entry) (x e : Entry) → after ≡ others ++ x ∷ [] → (is_among first e || is_among after e) ≡ ((is_among first e || is_among others e) || same_entry x e)
+among_others_too after first others x e is =
+    ap (λ (l : List Entry). is_among first e || is_among l e) is ∙ ap (λ (b : Bool). is_among first e || b) (among_one_more others x e)
+    ∙ or_group (is_among first e) (is_among others e) (same_entry x e)
+
+-- among two lists, by other names of theirs
+pub among_both : (first is_first others are_others : List Entry) (e : Entry) → first ≡ is_first → others ≡ are_others
+    → (is_among is_first e || is_among are_others e) ≡ (is_among first e || is_among others e)
+among_both first is_first others are_others e a b =
+    ap (λ (l : List Entry). is_among l e || is_among are_others e) (sym a) ∙ ap (λ (l : List Entry). is_among first e || is_among l e) (sym b)
 
 -- ascending entries are apart
 further : (a e : Entry) (es : List Entry) → is_past (bound_of a) e ≡ true → AscendsPast (Some (bound_of e)) es → AscendsPast (Some (bound_of a)) es

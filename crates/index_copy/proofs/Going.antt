@@ -1,5 +1,6 @@
 -- What an index is after some calls, one after the other.
-use Rattle.std.proofs.Common.{◌≡◌, ℕ, Bool, true, ◌||◌, Option, Result, Ok, Err, List, refl, sym, ap, inl, inr, ◌∙◌}
+use Rattle.std.proofs.Common.{◌≡◌, ℕ, Bool, true, ◌||◌, Option, Result, Ok, Err, List, refl, sym, ap, subst, inl, inr, ◌∙◌, IfErr}
+use Rattle.std.specs.Result.{IsErrAnd}
 use Rattle.std.proofs.lemmas.Bool.{or_cases}
 use Rattle.index_model.proofs.Ascending.{same_entry-self}
 use Rattle.index_model.specs.Actions.{Action}
@@ -20,6 +21,11 @@ use Rattle.access_method.specs.Indexes.{ForEachIndexHistory, IndexFits, IndexIns
 use Rattle.access_method.specs.declared.index.Index.{Index}
 use Rattle.index_copy.proofs.Entries.{or_left, or_right, or_turned}
 use Rattle.index_copy.specs.Copying.{Gains, GoesOn, HasKeyTwice, IsRefusedFor}
+
+-- what holds of a fault holds of a result that is refused with it
+pub err_as : {T : Type 0} (r : Result T Fault) (fault : Fault) (P : Fault → Type 0) → IsErrAnd r (λ e. e ≡ fault) → P fault → IfErr r P
+err_as (Ok x) fault P is p = tt
+err_as (Err e) fault P is p = subst P (sym is) p
 
 -- one store continues another, and that one a third
 pub steps_twice : {S : Type 0} (follows : S → S → Type 0) (old mid new : S) → Continues follows old mid → Continues follows mid new → Continues follows old new
@@ -124,4 +130,19 @@ refused_one g entry fault result old new is inserts honest start history calls f
       is_one = same_entry-self entry;
       apart = was.0;
       taken = or_right (same_entry entry other) (has_entry g old.store other) was.1;
+    }
+
+-- what is refused for some entries, is refused for more
+pub refused_more : {T : Type 0} (h : Ghosts T) (few all : Entry → Bool) (old : T) (fault : Fault) → ((e : Entry) → few e ≡ true → all e ≡ true) → IsRefusedFor h few old fault → IsRefusedFor h all old fault
+refused_more h few all old fault within refused row is =
+    let twice = refused row is in
+    let other : Entry = with_row twice.entry row in
+    record {
+      entry = twice.entry;
+      is_one = within twice.entry twice.is_one;
+      apart = twice.apart;
+      taken = elim (or_cases (few other) (has_entry h old other) twice.taken) [
+        | inl comes ↦ or_left (all other) (has_entry h old other) (within other comes)
+        | inr was ↦ or_right (all other) (has_entry h old other) was
+      ];
     }

@@ -1,5 +1,5 @@
 pub mod Entries
 pub mod Going
-pub mod Asking
+pub mod Nexts
 pub mod Seats
 pub mod Copied

@@ -2,7 +2,8 @@
 use Rattle.std.specs.Prelude.{OnOk, OnErr, slice_get, slice_set}
 use Rattle.std.proofs.Common.{◌≡◌, ◌<◌, ℕ, zero, suc, Bool, true, false, Option, Some, None, Result, Ok, Err, List, [], ◌∷◌, length, refl, sym, ap, subst, inl, inr, ◌∙◌, eq-eqb}
 use Rattle.schedule.proofs.Lists.{get_set_same, get_within}
-use Rattle.access_method.specs.Indexes.{IsNewToken, SameTokens, SeatBecomes, seat_with}
+use Rattle.access_method.specs.Indexes.{IsNewToken, SameTokens, SeatBecomes, TokenAfter, seat_with}
+use Rattle.index_model.specs.declared.entry.Entry.{Entry}
 use Rattle.access_method.specs.Tokens.{seat_for, seat_of, sitter_of}
 use Rattle.access_method.specs.declared.index.Index.{Index}
 use Rattle.access_method.specs.declared.token.ScanToken.{ScanToken}
@@ -15,12 +16,12 @@ use Rattle.index_copy.specs.Copies.{SeatIsKept}
 set_twice : {X : Type 0} (xs : List X) (i : ℕ) (a b : X) → slice_set (slice_set xs i a) i b ≡ slice_set xs i b
 set_twice [] i a b = refl
 set_twice (y ∷ ys) zero a b = refl
-set_twice (y ∷ ys) (suc i) a b = ap (λ (l : List X). y ∷ l) (set_twice ys i a b)
+set_twice {X = X} (y ∷ ys) (suc i) a b = ap (λ (l : List X). y ∷ l) (set_twice ys i a b)
 
 set_back : {X : Type 0} (xs : List X) (i : ℕ) (x : X) → slice_get xs i ≡ Some x → slice_set xs i x ≡ xs
 set_back [] i x h = refl
-set_back (y ∷ ys) zero x h = let same : x ≡ y = cc in ap (λ (z : X). z ∷ ys) same
-set_back (y ∷ ys) (suc i) x h = ap (λ (l : List X). y ∷ l) (set_back ys i x h)
+set_back {X = X} (y ∷ ys) zero x h = let same : x ≡ y = cc in ap (λ (z : X). z ∷ ys) same
+set_back {X = X} (y ∷ ys) (suc i) x h = ap (λ (l : List X). y ∷ l) (set_back ys i x h)
 
 -- the seat that a scan of this token sits on
 abbrev pub sits : ScanToken → Bool → Seat
@@ -79,3 +80,12 @@ becomes_then token seat old mid new same becomes = record {
 -- a seat stays if tokens do
 pub seat_stays : {S : Type 0} (token : ScanToken) (seat : Option Seat) (old new : Index S) → SameTokens old new → seat_of old.seats token ≡ seat → seat_of new.seats token ≡ seat
 seat_stays token seat old new same was = ap (λ (seats : List (Option Sitter)). seat_of seats token) same.seats_is ∙ was
+
+-- tokens stay if a scan gives an entry, or has given all
+pub tokens_given : {S : Type 0} (token : ScanToken) (answer : Result (Option Entry) Fault) (given : Option Entry) (old new : Index S) → answer ≡ Ok given → TokenAfter token answer old new → SameTokens old new
+tokens_given {S = S} token answer given old new is after = subst (λ (r : Result (Option Entry) Fault). TokenAfter token r old new) is after
+
+-- ... and a scan that is refused stays open, and refused
+pub tokens_refused : {S : Type 0} (token : ScanToken) (answer : Result (Option Entry) Fault) (fault : Fault) (old new : Index S) → answer ≡ Err fault → TokenAfter token answer old new
+    → SeatBecomes token (seat_with token true) old new
+tokens_refused {S = S} token answer fault old new is after = subst (λ (r : Result (Option Entry) Fault). TokenAfter token r old new) is after

@@ -6,15 +6,15 @@ use Rattle.index_model.specs.Order.{is_among}
 use Rattle.index_model.specs.declared.entry.Entry.{Entry}
 use Rattle.page_action.specs.States.{Continues}
 use Rattle.schedule.specs.Sessions.{op_of}
-use Rattle.index_copy.proofs.Asking.{FillsBatch}
+use Rattle.index_copy.proofs.Nexts.{FillsBatch}
 use Rattle.index_copy.specs.Batches.{batch_len}
 use Rattle.index_copy.proofs.asking.next_batch.Given as goal
 
-abbrev pub decreases-loop-batch : goal.decreases-loop-batch
-decreases-loop-batch g l = 23 - batch_len l.batch
+abbrev pub decreases-loop-token : goal.decreases-loop-token
+decreases-loop-token g l = 23 - batch_len l.batch
 
-abbrev pub invariant-loop-batch : goal.invariant-loop-batch
-invariant-loop-batch g l = record {
+abbrev pub invariant-loop-token : goal.invariant-loop-token
+invariant-loop-token g l = record {
   seat : seat_of l.index.seats l.token ≡ seat_with l.token false;
   runs : op_of l.index.calls l.token.session ≢ None;
   steps : Continues g.S.PageStore.follows l.initial.index.store l.index.store;

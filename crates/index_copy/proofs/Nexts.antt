@@ -1,9 +1,11 @@
 -- What an open scan has given.
-use Rattle.std.proofs.Common.{◌≡◌, ◌<◌, ◌≤◌, ◌+◌, ℕ, Bool, ◌||◌, Option, Some, None, Result, Ok, Err, List, [], ◌∷◌, ◌++◌, length, refl, sym, ap, subst, ◌∙◌, arith, length-append}
+use Rattle.std.proofs.Common.{◌≡◌, ◌≢◌, ◌<◌, ◌≤◌, ◌+◌, ℕ, Bool, ◌||◌, Option, Some, None, Result, Ok, Err, List, [], ◌∷◌, ◌++◌, length, refl, sym, ap, subst, ◌∙◌, arith, length-append}
 use Rattle.index_model.specs.Order.{is_among, same_entry}
 use Rattle.index_model.specs.declared.entry.Entry.{Entry}
 use Rattle.index_model.specs.declared.fault.Fault.{Fault}
 use Rattle.page_action.specs.declared.page_store.PageStore.{Ghosts}
+use Rattle.session_calls.specs.declared.op.Op.{Op}
+use Rattle.whole_calls.specs.Giving.{RunsIfGiven}
 use Rattle.access_method.specs.Scans.{NextIs, NextsAre}
 use Rattle.access_method.specs.declared.index.Index.{Index}
 use Rattle.index_copy.proofs.Entries.{among_one_more}
@@ -29,6 +31,10 @@ module _ {S : Type 0} (g : Ghosts S) (session : ℕ) where
   -- of an index that is another by its name
   pub nexts_to : (given : List Entry) (old mid new : Index S) → new ≡ mid → NextsAre g session given old mid → NextsAre g session given old new
   nexts_to given old mid new same nexts = subst (λ (i : Index S). NextsAre g session given old i) (sym same) nexts
+
+-- a session that has given an entry runs on
+pub runs_on : (answer : Result (Option Entry) Fault) (entry : Entry) (before after : Option Op) → answer ≡ Ok (Some entry) → RunsIfGiven answer before after → before ≢ None → after ≢ None
+runs_on answer entry before after is lasts = subst (λ (r : Result (Option Entry) Fault). RunsIfGiven r before after) is lasts
 
 -- these were given so far, and the batch has them
 pub record FillsBatch {S : Type 0} (g : Ghosts S) (session : ℕ) (old new : Index S) (batch : Batch) : Type 0 where
