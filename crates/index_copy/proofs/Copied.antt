@@ -20,9 +20,11 @@ use Rattle.index_copy.proofs.Nexts.{nexts_to, nexts_twice}
 use Rattle.index_copy.proofs.Entries.{distinct_ascending, one_test, or_left, or_right}
 use Rattle.index_copy.proofs.Going.{gains_twice, honest_before, refused_more, refused_then}
 use Rattle.index_copy.specs.Batches.{BreaksOff, GivesBatch, batch_len, is_in_batch}
-use Rattle.index_copy.specs.Copies.{CopiesScan, IsCopied, IsRefusedOne, ThenAnswers, WasAsked}
+use Rattle.index_copy.specs.Copies.{CopiesScan, IsCopied, IsNotCopied, IsRefusedOne, IsStopped, ThenAnswers, WasAsked}
 use Rattle.index_copy.specs.Copying.{Gains, GoesOn, HasKeyTwice, IsRefusedFor}
 use Rattle.index_copy.specs.declared.batch.Batch.{Batch}
+use Rattle.index_copy.specs.declared.copying.NotCopied.{NotCopied}
+use Rattle.index_copy.specs.declared.copying.NotCopied.TheVariants.{NotGiven, NotPut}
 
 -- so many entries were given by the scan, and the other index has gained these
 pub record HasCopied {S T : Type 0} (g : Ghosts S) (h : Ghosts T) (session count : ℕ) (old new : Index S) (into_old into_new : Index T) : Type 0 where
@@ -76,30 +78,30 @@ module _ {S T : Type 0} (g : Ghosts S) (h : Ghosts T) (laws : Laws h) (session c
     all_gives : NextsAre g session (copied.given ++ b.given) old b.last
     all_gives = nexts_twice g session copied.given b.given old mid b.last copied.gives b.gives
 
-    all_many : count + batch_len batch ≡ length (copied.given ++ b.given)
-    all_many = let many = copied.many in let more = b.many in simp length-append (omega (arith, many, more))
+    all_many : (many : ℕ) → many ≡ batch_len batch → count + many ≡ length (copied.given ++ b.given)
+    all_many many is = let before = copied.many in let more = b.many in simp length-append (omega (arith, before, more, is))
 
     all_gains : ForEachIndexHistory h into_mid into_new (λ start history calls. Gains h (is_in_batch batch) into_mid.store into_new.store)
         → ForEachIndexHistory h into_old into_new (λ start history calls. Gains h (is_among (copied.given ++ b.given)) into_old.store into_new.store)
     all_gains gains = gains_twice h laws into_old into_mid into_new steps goes (is_among copied.given) (is_in_batch batch) (is_among (copied.given ++ b.given)) copied.gains gains joined
 
     -- a batch of 23 was put, too
-    pub copied_more : batch_len batch ≡ 23 → ForEachIndexHistory h into_mid into_new (λ start history calls. Gains h (is_in_batch batch) into_mid.store into_new.store)
-        → HasCopied g h session (count + batch_len batch) old new into_old into_new
-    copied_more full gains = record {
+    pub copied_more : (many : ℕ) → many ≡ batch_len batch → batch_len batch ≡ 23 → ForEachIndexHistory h into_mid into_new (λ start history calls. Gains h (is_in_batch batch) into_mid.store into_new.store)
+        → HasCopied g h session (count + many) old new into_old into_new
+    copied_more many is full gains = record {
       given = copied.given ++ b.given;
-      many = all_many;
+      many = all_many many is;
       gives = nexts_to g session (copied.given ++ b.given) old b.last new (b.whole (sym b.many ∙ full)) all_gives;
       gains = all_gains gains;
     }
 
     -- ... and the last one
-    pub copied_last : batch_len batch ≢ 23 → ForEachIndexHistory h into_mid into_new (λ start history calls. Gains h (is_in_batch batch) into_mid.store into_new.store)
-        → CopiesScan g h session (count + batch_len batch) old new into_old into_new
-    copied_last short gains = record {
+    pub copied_last : (many : ℕ) → many ≡ batch_len batch → batch_len batch ≢ 23 → ForEachIndexHistory h into_mid into_new (λ start history calls. Gains h (is_in_batch batch) into_mid.store into_new.store)
+        → CopiesScan g h session (count + many) old new into_old into_new
+    copied_last many is short gains = record {
       given = copied.given ++ b.given;
       last = b.last;
-      many = all_many;
+      many = all_many many is;
       gives = all_gives;
       ends = b.ends (λ full. short (b.many ∙ full));
       gains = all_gains gains;
@@ -166,3 +168,9 @@ module _ {S : Type 0} (g : Ghosts S) (laws : Laws g) (session : ℕ) (range : Ra
               | inr next ↦ ((alls refused.last refused.given refused.gives next then start history calls fits).right e among).0
             ] in
             refused_more h (is_among refused.given) (has_entry g before.store) into_old.store fault there (refused.refused honest_then begin actions calls_then fitted)
+
+        -- ... as it is told why the copy stopped
+        pub stopped_all : (not_copied : NotCopied) → IsStopped g h session begun now into_old into_new not_copied
+            → ForEachIndexHistory g before new (λ start history calls. IsNotCopied g h before.store into_old into_new not_copied)
+        stopped_all (NotGiven fault) stopped honest start history calls fits = tt
+        stopped_all (NotPut fault) stopped honest start history calls fits = refused_all fault stopped honest start history calls fits
