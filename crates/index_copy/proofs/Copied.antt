@@ -1,14 +1,12 @@
 -- What a copy of a scan has done so far, and what that says of the index that it scans.
-use Rattle.std.proofs.Common.{◌≡◌, ◌≢◌, ◌<◌, ◌≤◌, ◌+◌, ◌⊎◌, ℕ, Bool, true, ◌||◌, Option, Some, None, Result, Ok, Err, List, [], ◌∷◌, ◌++◌, length, refl, sym, ap, subst, inl, inr, ◌∙◌, arith, length-append}
-use Rattle.std.proofs.lemmas.Bool.{cases_eq, or_cases}
+use Rattle.std.proofs.Common.{◌≡◌, ◌≢◌, ◌+◌, ℕ, Bool, true, ◌||◌, Option, Some, None, Result, Ok, Err, List, ◌++◌, length, refl, sym, ap, inl, inr, ◌∙◌, arith, length-append}
+use Rattle.std.proofs.lemmas.Bool.{cases_eq}
 use Rattle.index_model.proofs.Ascending.{is_among-append}
 use Rattle.index_model.specs.Order.{is_among}
 use Rattle.index_model.specs.Range.{matches}
-use Rattle.index_model.specs.Row.{Row}
 use Rattle.index_model.specs.declared.entry.Entry.{Entry}
 use Rattle.index_model.specs.declared.fault.Fault.{Fault}
 use Rattle.index_model.specs.declared.range.Range.{Range}
-use Rattle.page_action.specs.Causes.{with_row}
 use Rattle.page_action.specs.States.{Continues}
 use Rattle.page_action.specs.declared.page_store.PageStore.{Ghosts}
 use Rattle.schedule.proofs.Keeping.{Laws}
@@ -21,7 +19,7 @@ use Rattle.index_copy.proofs.Entries.{distinct_ascending, one_test, or_left, or_
 use Rattle.index_copy.proofs.Going.{gains_twice, honest_before, refused_more, refused_then}
 use Rattle.index_copy.specs.Batches.{BreaksOff, GivesBatch, batch_len, is_in_batch}
 use Rattle.index_copy.specs.Copies.{CopiesScan, IsCopied, IsNotCopied, IsRefusedOne, IsStopped, ThenAnswers, WasAsked}
-use Rattle.index_copy.specs.Copying.{Gains, GoesOn, HasKeyTwice, IsRefusedFor}
+use Rattle.index_copy.specs.Copying.{Gains, GoesOn, IsRefusedFor}
 use Rattle.index_copy.specs.declared.batch.Batch.{Batch}
 use Rattle.index_copy.specs.declared.copying.NotCopied.{NotCopied}
 use Rattle.index_copy.specs.declared.copying.NotCopied.TheVariants.{NotGiven, NotPut}

@@ -1,12 +1,11 @@
 -- What an index is after some calls, one after the other.
-use Rattle.std.proofs.Common.{◌≡◌, ℕ, Bool, true, ◌||◌, Option, Result, Ok, Err, List, refl, sym, ap, subst, inl, inr, ◌∙◌, IfErr}
+use Rattle.std.proofs.Common.{◌≡◌, ℕ, Bool, true, ◌||◌, Option, Result, Ok, Err, List, sym, ap, subst, inl, inr, ◌∙◌, IfErr}
 use Rattle.std.specs.Result.{IsErrAnd}
 use Rattle.std.proofs.lemmas.Bool.{or_cases}
 use Rattle.index_model.proofs.Ascending.{same_entry-self}
 use Rattle.index_model.specs.Actions.{Action}
 use Rattle.index_model.specs.Calls.{Call}
 use Rattle.index_model.specs.Order.{same_entry}
-use Rattle.index_model.specs.Row.{Row}
 use Rattle.index_model.specs.declared.entry.Entry.{Entry}
 use Rattle.index_model.specs.declared.fault.Fault.{Fault}
 use Rattle.page_action.specs.Causes.{with_row}
@@ -17,10 +16,10 @@ use Rattle.schedule.specs.TheoremMoments.{Moment}
 use Rattle.session_calls.specs.declared.answer.Answer.{Answer}
 use Rattle.whole_calls.specs.Going.{CallRuns}
 use Rattle.whole_calls.specs.declared.inserted.Inserted.{Inserted}
-use Rattle.access_method.specs.Indexes.{ForEachIndexHistory, IndexFits, IndexInserts, InsertsOrKeeps, SameTokens, has_entry, slots_within}
+use Rattle.access_method.specs.Indexes.{ForEachIndexHistory, IndexInserts, InsertsOrKeeps, SameTokens, has_entry, slots_within}
 use Rattle.access_method.specs.declared.index.Index.{Index}
 use Rattle.index_copy.proofs.Entries.{or_left, or_right, or_turned}
-use Rattle.index_copy.specs.Copying.{Gains, GoesOn, HasKeyTwice, IsRefusedFor}
+use Rattle.index_copy.specs.Copying.{Gains, GoesOn, IsRefusedFor}
 
 -- what holds of a fault holds of a result that is refused with it
 pub err_as : {T : Type 0} (r : Result T Fault) (fault : Fault) (P : Fault → Type 0) → IsErrAnd r (λ e. e ≡ fault) → P fault → IfErr r P

@@ -51,7 +51,7 @@ module _ {S : Type 0} (token : ScanToken) (old begun : Index S) (new_token : IsN
   asked_seats mid (inr refused) = (
     true,
     refused.seats_is ∙ ap (λ (seats : List (Option Sitter)). slice_set seats token.session (sitter token true)) new_token.seats_is
-    ∙ set_twice old.seats token.session (sitter token false) (sitter token true),
+        ∙ set_twice old.seats token.session (sitter token false) (sitter token true),
   )
 
   -- so it is open, and can be closed

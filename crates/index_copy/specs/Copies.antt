@@ -1,5 +1,5 @@
 -- What a copy leaves of both indexes.
-use Rattle.std.specs.Prelude.{◌≡◌, ◌⊎◌, ℕ, Bool, true, Option, Some, None, Result, Ok, List, length, ⊤}
+use Rattle.std.specs.Prelude.{◌≡◌, ◌⊎◌, ℕ, true, Option, Some, None, Result, Ok, List, length, ⊤}
 use Rattle.access_method.specs.Indexes.{AreSoMany, ForEachIndexHistory, SameTokens, SeatBecomes, has_entry, seat_with}
 use Rattle.access_method.specs.Scans.{NextIs, NextsAre}
 use Rattle.access_method.specs.declared.index.Index.{Index}

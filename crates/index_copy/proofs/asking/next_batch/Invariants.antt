@@ -1,9 +1,6 @@
-use Rattle.std.proofs.Common.{◌≡◌, ◌≢◌, ◌≤◌, ◌-◌, ℕ, false, None, List, length}
+use Rattle.std.proofs.Common.{◌≡◌, ◌≢◌, ◌-◌, false, None}
 use Rattle.access_method.specs.Indexes.{SameTokens, seat_with}
-use Rattle.access_method.specs.Scans.{NextsAre}
 use Rattle.access_method.specs.Tokens.{seat_of}
-use Rattle.index_model.specs.Order.{is_among}
-use Rattle.index_model.specs.declared.entry.Entry.{Entry}
 use Rattle.page_action.specs.States.{Continues}
 use Rattle.schedule.specs.Sessions.{op_of}
 use Rattle.index_copy.proofs.Nexts.{FillsBatch}

@@ -1,4 +1,4 @@
-use Rattle.std.proofs.Common.{◌≡◌, ◌≢◌, ◌<◌, ◌≤◌, sym, arith}
+use Rattle.std.proofs.Common.{◌≡◌, ◌≢◌, arith}
 use Rattle.index_copy.specs.Batches.{batch_len}
 use Rattle.index_copy.proofs.Copied.{asked_batch, asked_refused, asked_so_far, copied_last, copied_more, refused_in}
 use Rattle.index_copy.proofs.Going.{goes_twice, steps_twice, tokens_twice}

@@ -1,7 +1,6 @@
-use Rattle.std.proofs.Common.{◌≡◌, ◌||◌, List, refl, sym, ap, ◌∙◌, true}
+use Rattle.std.proofs.Common.{refl, ◌∙◌}
 use Rattle.std.proofs.lemmas.Result.{IfErr-weaker, on_ok_weaker}
 use Rattle.index_model.specs.Order.{is_among}
-use Rattle.index_model.specs.declared.entry.Entry.{Entry}
 use Rattle.index_copy.proofs.Entries.{among_both, or_left, or_right}
 use Rattle.index_copy.proofs.Going.{err_as, gains_twice, goes_twice, refused_more, refused_then}
 use Rattle.index_copy.specs.Batches.{is_in_batch}

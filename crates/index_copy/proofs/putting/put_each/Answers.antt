@@ -1,4 +1,4 @@
-use Rattle.std.proofs.Common.{take, ap, ◌||◌, Bool, List, ◌∙◌}
+use Rattle.std.proofs.Common.{take, ap, ◌||◌, List, ◌∙◌}
 use Rattle.std.proofs.lemmas.List.{take_all}
 use Rattle.access_method.specs.Indexes.{has_entry}
 use Rattle.index_model.specs.Order.{is_among, same_entry}
