@@ -69,7 +69,10 @@ fn copied(
 
 #[test]
 fn all_entries_are_copied(rt: HostRuntime) -> Result<(), Fail> {
-    assert_eq!(rt; copied(rt.alloc(), ENTRIES, None, limits(64)), Ok((Ok(60), true)));
+    assert_eq!(rt;
+        copied(rt.alloc(), ENTRIES, None, limits(64)),
+        Ok((Ok(60), true))
+    );
     Ok(())
 }
 
@@ -82,7 +85,10 @@ fn nothing_is_copied(rt: HostRuntime) -> Result<(), Fail> {
 // 23 entries are one batch, and the next one is empty.
 #[test]
 fn a_whole_batch_is_copied(rt: HostRuntime) -> Result<(), Fail> {
-    assert_eq!(rt; copied(rt.alloc(), 23, None, limits(64)), Ok((Ok(23), true)));
+    assert_eq!(rt;
+        copied(rt.alloc(), 23, None, limits(64)),
+        Ok((Ok(23), true))
+    );
     Ok(())
 }
 
@@ -90,13 +96,19 @@ fn a_whole_batch_is_copied(rt: HostRuntime) -> Result<(), Fail> {
 // full ones are fewer: 28 pages are enough for these and what stands above them, with the metapage.
 #[test]
 fn a_copy_is_filled_well(rt: HostRuntime) -> Result<(), Fail> {
-    assert_eq!(rt; copied(rt.alloc(), ENTRIES, None, limits(28)), Ok((Ok(60), true)));
+    assert_eq!(rt;
+        copied(rt.alloc(), ENTRIES, None, limits(28)),
+        Ok((Ok(60), true))
+    );
     Ok(())
 }
 
 #[test]
 fn too_few_pages_are_refused(rt: HostRuntime) -> Result<(), Fail> {
-    assert_eq!(rt; copied(rt.alloc(), ENTRIES, None, limits(8)), Ok((Err(8), false)));
+    assert_eq!(rt;
+        copied(rt.alloc(), ENTRIES, None, limits(8)),
+        Ok((Err(8), false))
+    );
     Ok(())
 }
 
@@ -109,6 +121,9 @@ fn a_key_twice_is_refused(rt: HostRuntime) -> Result<(), Fail> {
         unique: true,
     };
     let twice = Some(entry(30, 200));
-    assert_eq!(rt; copied(rt.alloc(), ENTRIES, twice, unique), Ok((Err(21), false)));
+    assert_eq!(rt;
+        copied(rt.alloc(), ENTRIES, twice, unique),
+        Ok((Err(21), false))
+    );
     Ok(())
 }
