@@ -9,14 +9,19 @@ use std::test::{Fail, *};
 use tests_support::plain::{begin_scan, end_scan, index_over, insert, next};
 use tests_support::small::{ALL, entry, limits, pages};
 
-// How many entries the index has that is copied.
-const ENTRIES: u8 = 60;
+// How many entries an index has at most that is copied.
+const ENTRIES: u16 = 60;
 
-// Puts entries of so many keys, in shuffled order.
-fn fill<S: PageStore>(index: &mut Index<S>, entries: u8) -> Result<(), Fault> {
-    for number in 0..u16::from(entries) {
-        let key = number * 7 % u16::from(entries);
-        insert(index, entry(key as u8, 1 + key))?;
+// The entry of this key, below 60, and of a row that tells the key.
+fn of(key: u16) -> Entry {
+    let key = key % ENTRIES;
+    entry(key as u8, 1 + key)
+}
+
+// Puts entries of so many different keys, in shuffled order.
+fn fill<S: PageStore>(index: &mut Index<S>, entries: u16) -> Result<(), Fault> {
+    for number in 0..entries {
+        insert(index, of(number.wrapping_mul(7)))?;
     }
     Ok(())
 }
@@ -53,7 +58,7 @@ fn number(not_copied: NotCopied) -> u64 {
 // came to, and whether both give the same.
 fn copied(
     alloc: Global,
-    entries: u8,
+    entries: u16,
     more: Option<Entry>,
     limits_of_copy: Limits,
 ) -> Result<(Result<u64, u64>, bool), Fault> {
@@ -100,7 +105,7 @@ fn pages_used(alloc: Global) -> Result<(u32, u32), Fault> {
     let _came = copy(&mut from, &mut into, &NoProgress, u64::from(ENTRIES));
     let mut ascending = index_over(alloc, pages(alloc, limits(64))?)?;
     for key in 0..ENTRIES {
-        insert(&mut ascending, entry(key, 1 + u16::from(key)))?;
+        insert(&mut ascending, of(key))?;
     }
     Ok((into.info().pages_used, ascending.info().pages_used))
 }
