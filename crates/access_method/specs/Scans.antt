@@ -1,6 +1,7 @@
 -- What a scan gives, call after call: the sorted matches.
 use Rattle.std.specs.Prelude.{◌≡◌, ℕ, Bool, true, Option, Some, None, Result, Ok, List, [], ◌∷◌}
-use Rattle.index_model.specs.Calls.{IsUpToLast}
+use Rattle.index_model.specs.Actions.{Action}
+use Rattle.index_model.specs.Calls.{Call, IsUpToLast}
 use Rattle.index_model.specs.Order.{IsAscending, is_among}
 use Rattle.index_model.specs.Range.{matches}
 use Rattle.index_model.specs.declared.entry.Entry.{Entry}
@@ -12,7 +13,7 @@ use Rattle.session_calls.specs.declared.answer.Answer.TheVariants.{Begun}
 use Rattle.session_calls.specs.declared.request.Request.TheVariants.{Scan as ToScan}
 use Rattle.whole_calls.specs.Giving.{SessionGivenMeans, given_outcome}
 use Rattle.whole_calls.specs.Meanings.{HasBegun}
-use Rattle.access_method.specs.Indexes.{AnswersScan, ForEachIndexHistory, IndexIsRun}
+use Rattle.access_method.specs.Indexes.{AnswersScan, ForEachIndexHistory, IndexFits, IndexIsRun, IndexKeeps, has_entry}
 use Rattle.access_method.specs.declared.index.Index.{Index}
 
 -- a scan of the range is begun in this session, as `ambeginscan` tells it: its `steps` and `runs`
@@ -42,3 +43,10 @@ pub record AreTheMatches (is_there : Entry → Bool) (range : Range) (given : Li
   pub ascending : IsAscending given
   pub right : (e : Entry) → is_among given e ≡ true → (is_there e ≡ true) × (matches range e ≡ true)
   pub all : (e : Entry) → is_there e ≡ true → matches range e ≡ true → is_among given e ≡ true
+
+-- No action was done, and no entry has come or gone: the history that fitted before fits with these calls, and is kept if it was.
+pub record Rests {S : Type 0} (g : Ghosts S) (old new : Index S) (start : Entry → Bool) (history : List Action) (calls : List Call) : Type 0 where
+  pub then_calls : List Call
+  pub fits : IndexFits g new start history then_calls
+  pub keeps : IndexKeeps g old start history calls → IndexKeeps g new start history then_calls
+  pub contents : (e : Entry) → has_entry g new.store e ≡ has_entry g old.store e

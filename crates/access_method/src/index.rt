@@ -133,7 +133,7 @@ fn deleted_pages<S: PageStore>(store: &S) -> (u32, u32)
 }
 
 impl<S: PageStore> Index<S> {
-    ghost use Rattle.std.specs.Prelude.{◌≡◌, ◌≢◌, ℕ, List, [], true, false, None, Some, Ok, Err, IfOk, IfErr, IsOk, OnOk, OnErr, OnSome, ◌<◌, length};
+    ghost use Rattle.std.specs.Prelude.{◌≡◌, ◌≢◌, ℕ, List, [], true, false, Option, None, Some, Result, Ok, Err, IfOk, IfErr, IsOk, OnOk, OnErr, OnSome, ◌<◌, length};
     ghost use Rattle.access_method.specs.declared.token.ScanToken.{ScanToken};
     ghost use Rattle.index_model.specs.Formats.{sizes_of};
     ghost use Rattle.vacuum.specs.Counts.{deleted_count, free_count};
@@ -154,7 +154,7 @@ impl<S: PageStore> Index<S> {
     ghost use Rattle.whole_calls.specs.Giving.{SessionGivenMeans, EndsUnlessGiven, RunsIfGiven, given_outcome};
     ghost use Rattle.access_method.specs.Tokens.{seat_of};
     ghost use Rattle.access_method.specs.Indexes.{IndexFits, IndexKeeps, IndexIsRun, IndexInserts, IndexMakes, IndexIsKept, slots_with, ForEachIndexHistory, BulkDeleteRuns, SameTokens, IsNewToken, SeatBecomes, seat_with, RescanMeans, TokenAfter, InsertsOrKeeps, IsBulkDeletedOrLess, IsCleanedUp, AnswersScan, has_entry, NotOpenedFor, NotRescannedFor, cannot_begin};
-    ghost use Rattle.access_method.specs.Scans.{AreTheMatches, BeginTheMatches, NextIs, NextsAre, ScanBegins};
+    ghost use Rattle.access_method.specs.Scans.{AreTheMatches, BeginTheMatches, NextIs, NextsAre, Rests, ScanBegins};
     ghost use Rattle.index_model.specs.declared.entry.Entry.{Entry as IndexEntry};
     ghost use Rattle.index_model.specs.declared.range.Range.{Range as TheRange};
     ghost use Rattle.access_method.specs.Counted.{upkeep_outcome};
@@ -429,11 +429,13 @@ impl<S: PageStore> Index<S> {
     }
 
     /// Closes an open scan: its call is given up, and the token is not open any more. Refused with
-    /// `NoSession` where the token is not open.
+    /// `NoSession` where the token is not open. The contents stay.
     pub fn amendscan(&mut self, token: ScanToken) -> Result<(), Fault>
         ensures steps { Continues S.follows self.old.store self.new.store }
         ensures runs { OnOk result (IndexIsRun S.PageStore token.session
             (EndMeans token.session) None self.old self.new) }
+        ensures rests { OnOk result (ForEachIndexHistory S.PageStore self.old self.new
+            (Rests S.PageStore self.old self.new)) }
         // Whatever the pages are.
         ensures made { OnOk result
             (IndexMakes S.PageStore token.session (ComesTo None) self.old self.new) }
@@ -557,7 +559,8 @@ impl<S: PageStore> Index<S> {
 
     /// Does nothing: what a scan gives, where between its beginning and now nothing was done but asking for
     /// its next entry. These are the first of the sorted matches, of what was there when it was begun; and
-    /// all of them, once it has answered None.
+    /// all of them, once it has answered None. The index rests: its contents are those before the scan was
+    /// begun, whatever the last request answered.
     pub fn scan_law(&self)
         ensures first { (session : ℕ) (range : TheRange) (before begun : Index S) (given : List IndexEntry)
             → ScanBegins S.PageStore session range before begun
@@ -570,6 +573,16 @@ impl<S: PageStore> Index<S> {
             → NextIs S.PageStore session (Ok None) last self.now
             → ForEachIndexHistory S.PageStore before self.now (λ start history calls.
             AreTheMatches (has_entry S.PageStore before.store) range given) }
+        ensures rests { (session : ℕ) (range : TheRange) (before begun : Index S) (given : List IndexEntry)
+            → ScanBegins S.PageStore session range before begun
+            → NextsAre S.PageStore session given begun self.now
+            → ForEachIndexHistory S.PageStore before self.now (Rests S.PageStore before self.now) }
+        ensures rests_then { (session : ℕ) (range : TheRange) (before begun last : Index S)
+            (given : List IndexEntry) (answer : Result (Option IndexEntry) Fault)
+            → ScanBegins S.PageStore session range before begun
+            → NextsAre S.PageStore session given begun last
+            → NextIs S.PageStore session answer last self.now
+            → ForEachIndexHistory S.PageStore before self.now (Rests S.PageStore before self.now) }
     {}
 }
 

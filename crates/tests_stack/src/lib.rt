@@ -9,6 +9,8 @@ mod base;
 #[cfg(test)]
 mod commit_parts;
 #[cfg(test)]
+mod copies;
+#[cfg(test)]
 mod dead;
 #[cfg(test)]
 mod devices;

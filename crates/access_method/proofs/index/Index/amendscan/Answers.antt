@@ -1,9 +1,16 @@
 use Rattle.std.proofs.Common.{None, ◌∙◌, rules}
+use Rattle.access_method.proofs.Imports.{EndMeans}
+use Rattle.access_method.proofs.Scans.{rests_by}
 use Rattle.access_method.proofs.Seats.{agree_over}
 use Rattle.access_method.proofs.index.Index.amendscan.Goals as goal
 
 pub returns-clause-made : goal.returns-clause-made
 returns-clause-made g c = c.give_up.ensures.made 5
+
+pub returns-clause-rests : goal.returns-clause-rests
+returns-clause-rests g c honest start history calls fits =
+    let run = c.give_up.ensures.goes honest start history calls fits in
+    rests_by g.S.PageStore c.args.token.session (EndMeans c.args.token.session) None c.args.self.now _ start history calls fits run run.tells.history_is
 
 pub invariant_of-self : goal.invariant_of-self
 invariant_of-self g c =

@@ -1,0 +1,5 @@
+pub mod Entries
+pub mod Going
+pub mod Nexts
+pub mod Seats
+pub mod Copied
