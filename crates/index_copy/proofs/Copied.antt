@@ -34,7 +34,7 @@ pub record HasCopied {S T : Type 0} (g : Ghosts S) (h : Ghosts T) (session count
 module _ {S : Type 0} (g : Ghosts S) (session : ℕ) (given : List Entry) (old mid new : Index S) (before : NextsAre g session given old mid) where
   -- a batch was asked for then
   pub asked_batch : (batch : Batch) → GivesBatch g session mid new batch → WasAsked g session old new
-  asked_batch batch b = elim (cases_eq (length b.given) 23) [
+  asked_batch batch b = elim (cases_eq (length b.given) 4900) [
     | inl whole ↦ record {
       given = given ++ b.given;
       last = b.last;
@@ -83,8 +83,8 @@ module _ {S T : Type 0} (g : Ghosts S) (h : Ghosts T) (laws : Laws h) (session c
         → ForEachIndexHistory h into_old into_new (λ start history calls. Gains h (is_among (copied.given ++ b.given)) into_old.store into_new.store)
     all_gains gains = gains_twice h laws into_old into_mid into_new steps goes (is_among copied.given) (is_in_batch batch) (is_among (copied.given ++ b.given)) copied.gains gains joined
 
-    -- a batch of 23 was put, too
-    pub copied_more : (many : ℕ) → many ≡ batch_len batch → batch_len batch ≡ 23 → ForEachIndexHistory h into_mid into_new (λ start history calls. Gains h (is_in_batch batch) into_mid.store into_new.store)
+    -- a batch of 4900 was put, too
+    pub copied_more : (many : ℕ) → many ≡ batch_len batch → batch_len batch ≡ 4900 → ForEachIndexHistory h into_mid into_new (λ start history calls. Gains h (is_in_batch batch) into_mid.store into_new.store)
         → HasCopied g h session (count + many) old new into_old into_new
     copied_more many is full gains = record {
       given = copied.given ++ b.given;
@@ -94,7 +94,7 @@ module _ {S T : Type 0} (g : Ghosts S) (h : Ghosts T) (laws : Laws h) (session c
     }
 
     -- ... and the last one
-    pub copied_last : (many : ℕ) → many ≡ batch_len batch → batch_len batch ≢ 23 → ForEachIndexHistory h into_mid into_new (λ start history calls. Gains h (is_in_batch batch) into_mid.store into_new.store)
+    pub copied_last : (many : ℕ) → many ≡ batch_len batch → batch_len batch ≢ 4900 → ForEachIndexHistory h into_mid into_new (λ start history calls. Gains h (is_in_batch batch) into_mid.store into_new.store)
         → CopiesScan g h session (count + many) old new into_old into_new
     copied_last many is short gains = record {
       given = copied.given ++ b.given;
@@ -112,7 +112,7 @@ module _ {S T : Type 0} (g : Ghosts S) (h : Ghosts T) (laws : Laws h) (session c
       given = copied.given ++ b.given;
       last = b.last;
       gives = all_gives;
-      ends = elim (cases_eq (length b.given) 23) [ inl whole ↦ inl (b.whole whole) | inr short ↦ inr (b.ends short) ];
+      ends = elim (cases_eq (length b.given) 4900) [ inl whole ↦ inl (b.whole whole) | inr short ↦ inr (b.ends short) ];
       refused = refused_then h laws into_old into_mid into_new steps goes (is_among copied.given) (is_in_batch batch) (is_among (copied.given ++ b.given)) copied.gains fault refused
           (λ e was. joined e ∙ or_left (is_among copied.given e) (is_in_batch batch e) was) (λ e more. joined e ∙ or_right (is_among copied.given e) (is_in_batch batch e) more);
     }

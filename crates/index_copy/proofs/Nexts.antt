@@ -42,11 +42,11 @@ pub record FillsBatch {S : Type 0} (g : Ghosts S) (session : ℕ) (old new : Ind
   pub gives : NextsAre g session given old new
   pub many : batch_len batch ≡ length given
   pub each : (e : Entry) → is_in_batch batch e ≡ is_among given e
-  pub few : batch_len batch ≤ 23
+  pub few : batch_len batch ≤ 4900
 
 module _ {S : Type 0} (g : Ghosts S) (session : ℕ) (old now : Index S) (batch : Batch) (fills : FillsBatch g session old now batch) where
   -- one more
-  pub fills_more : (entry : Entry) (new : Index S) (filled : Batch) → NextIs g session (Ok (Some entry)) now new → batch_len batch < 23 → batch_len filled ≡ batch_len batch + 1
+  pub fills_more : (entry : Entry) (new : Index S) (filled : Batch) → NextIs g session (Ok (Some entry)) now new → batch_len batch < 4900 → batch_len filled ≡ batch_len batch + 1
       → ((e : Entry) → is_in_batch filled e ≡ (is_in_batch batch e || same_entry entry e)) → FillsBatch g session old new filled
   fills_more entry new filled next room more each = record {
     given = fills.given ++ entry ∷ [];
@@ -57,7 +57,7 @@ module _ {S : Type 0} (g : Ghosts S) (session : ℕ) (old now : Index S) (batch 
   }
 
   -- it is full
-  pub gives_whole : 23 ≤ batch_len batch → GivesBatch g session old now batch
+  pub gives_whole : 4900 ≤ batch_len batch → GivesBatch g session old now batch
   gives_whole full = record {
     given = fills.given;
     last = now;
@@ -70,7 +70,7 @@ module _ {S : Type 0} (g : Ghosts S) (session : ℕ) (old now : Index S) (batch 
   }
 
   -- or these were the last
-  pub gives_last : (new : Index S) → NextIs g session (Ok None) now new → batch_len batch < 23 → GivesBatch g session old new batch
+  pub gives_last : (new : Index S) → NextIs g session (Ok None) now new → batch_len batch < 4900 → GivesBatch g session old new batch
   gives_last new next room = record {
     given = fills.given;
     last = now;

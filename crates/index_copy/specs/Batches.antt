@@ -16,16 +16,16 @@ batch_len batch = length batch.first.items + length batch.others.items
 abbrev pub is_in_batch : Batch → Entry → Bool
 is_in_batch batch e = is_among batch.first.items e || is_among batch.others.items e
 
--- The session's scan gave these entries, one after the other, and they are those of the batch: 23; or fewer, and then it had given all.
+-- The session's scan gave these entries, one after the other, and they are those of the batch: 4900; or fewer, and then it had given all.
 pub record GivesBatch {S : Type 0} (g : Ghosts S) (session : ℕ) (old new : Index S) (batch : Batch) : Type 0 where
   pub given : List Entry
   pub last : Index S
   pub many : batch_len batch ≡ length given
   pub each : (e : Entry) → is_in_batch batch e ≡ is_among given e
   pub gives : NextsAre g session given old last
-  pub few : length given ≤ 23
-  pub whole : length given ≡ 23 → new ≡ last
-  pub ends : length given ≢ 23 → NextIs g session (Ok None) last new
+  pub few : length given ≤ 4900
+  pub whole : length given ≡ 4900 → new ≡ last
+  pub ends : length given ≢ 4900 → NextIs g session (Ok None) last new
 
 -- the session's scan gave entries, and then it was refused so
 pub record BreaksOff {S : Type 0} (g : Ghosts S) (session : ℕ) (fault : Fault) (old new : Index S) : Type 0 where

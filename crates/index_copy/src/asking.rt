@@ -12,7 +12,7 @@ use access_method::{Index, ScanToken};
 use index_model::Fault;
 use page_action::PageStore;
 
-/// The next entries that an open scan gives, 23 unless they are its last. Refused as `amgettuple` is.
+/// The next entries that an open scan gives, 4,900 unless they are its last. Refused as `amgettuple` is.
 pub(crate) fn next_batch<S: PageStore>(
     index: &mut Index<S>,
     token: ScanToken,
@@ -25,7 +25,7 @@ pub(crate) fn next_batch<S: PageStore>(
         BreaksOff S.PageStore token.session fault index.old index.new) }
     ensures tokens { OnOk result (SameTokens index.old index.new) }
     ensures refused { OnErr result (SeatBecomes token (seat_with token true) index.old index.new) }
-    ensures goes_on { IfOk result (λ batch. batch_len batch ≡ 23
+    ensures goes_on { IfOk result (λ batch. batch_len batch ≡ 4900
         → op_of index.new.calls token.session ≢ None) }
 {
     let mut batch = Batch::new();

@@ -49,7 +49,7 @@ fn copy_scan<S: PageStore, T: PageStore, P: Progress>(
     ensures tokens { SameTokens into.old into.new }
 {
     let mut count = 0;
-    while count < u64::MAX - 23 {
+    while count < u64::MAX - 4_900 {
         let batch = match next_batch(from, token) {
             Ok(batch) => batch,
             Err(fault) => return Err(NotCopied::NotGiven(fault)),

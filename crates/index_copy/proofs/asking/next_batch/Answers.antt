@@ -18,7 +18,7 @@ loop-token-preserved g c =
     let is : c.amgettuple.result ≡ Ok (Some entry) = cc in
     let next : NextIs g.S.PageStore session c.amgettuple.result now new = record { steps = went.steps; runs = went.runs so_far.seat so_far.runs; answers = went.answers } in
     let same = tokens_given c.args.token c.amgettuple.result (Some entry) now new is (went.tokens so_far.seat) in
-    let room : batch_len c.loop-token.batch < 23 = omega (arith, c.len.ensures.len, c.loop-token-test.true) in
+    let room : batch_len c.loop-token.batch < 4900 = omega (arith, c.len.ensures.len, c.loop-token-test.true) in
     record {
       seat = seat_stays c.args.token _ now new same so_far.seat;
       runs = runs_on c.amgettuple.result entry _ _ is went.lasts so_far.runs;
@@ -37,7 +37,7 @@ returns-in-Ok-None-clause-gives g c =
     let new = c.amgettuple.new.self in
     let is : c.amgettuple.result ≡ Ok None = c.in-Ok-None.is ∙ ap Ok c.in-Ok-None.field-0-is in
     let next : NextIs g.S.PageStore session c.amgettuple.result now new = record { steps = went.steps; runs = went.runs so_far.seat so_far.runs; answers = went.answers } in
-    let room : batch_len c.loop-token.batch < 23 = omega (arith, c.len.ensures.len, c.loop-token-test.true) in
+    let room : batch_len c.loop-token.batch < 4900 = omega (arith, c.len.ensures.len, c.loop-token-test.true) in
     gives_last g.S.PageStore session c.args.index.now now c.loop-token.batch so_far.fills new (next_as g.S.PageStore session c.amgettuple.result (Ok None) now new is next) room
 
 pub returns-in-Err-clause-breaks : goal.returns-in-Err-clause-breaks
@@ -53,5 +53,5 @@ returns-in-Err-clause-breaks g c =
 
 pub returns-clause-gives : goal.returns-clause-gives
 returns-clause-gives g c =
-    let full : 23 ≤ batch_len c.loop-token.batch = omega (arith, c.len.ensures.len, c.loop-token-test.false) in
+    let full : 4900 ≤ batch_len c.loop-token.batch = omega (arith, c.len.ensures.len, c.loop-token-test.false) in
     gives_whole g.S.PageStore c.args.token.session c.args.index.now c.loop-token.index c.loop-token.batch c.loop-token.invariant.fills full

@@ -8,7 +8,7 @@ use Rattle.index_copy.specs.Batches.{batch_len}
 use Rattle.index_copy.proofs.asking.next_batch.Given as goal
 
 abbrev pub decreases-loop-token : goal.decreases-loop-token
-decreases-loop-token g l = 23 - batch_len l.batch
+decreases-loop-token g l = 4900 - batch_len l.batch
 
 abbrev pub invariant-loop-token : goal.invariant-loop-token
 invariant-loop-token g l = record {

@@ -34,7 +34,7 @@ returns-then-len-lt-BATCH-clause-asked g c =
 pub returns-then-len-lt-BATCH-clause-copies : goal.returns-then-len-lt-BATCH-clause-copies
 returns-then-len-lt-BATCH-clause-copies g c =
     let so_far = c.loop-count.invariant in
-    let short : batch_len c.in-Ok.batch ≢ 23 = λ full. omega (arith, c.len-in-loop-count.ensures.len, c.if-len-lt-BATCH.true, full) in
+    let short : batch_len c.in-Ok.batch ≢ 4900 = λ full. omega (arith, c.len-in-loop-count.ensures.len, c.if-len-lt-BATCH.true, full) in
     copied_last g.S.PageStore g.T.PageStore g.met.T.PageStore.laws c.args.token.session c.loop-count.count c.args.from.now c.loop-count.from c.next_batch.new.index
     c.args.into.now c.loop-count.into c.put_batch.new.index c.put_batch.ensures.steps so_far.goes_on so_far.copied c.in-Ok.batch c.in-Ok.ensures.gives
     c.len.result c.len.ensures.len short c.in_default.ensures.gains
@@ -52,7 +52,7 @@ loop-count-preserved g c =
     let into_old = c.args.into.now in
     let into_now = c.loop-count.into in
     let into_new = c.put_batch.new.index in
-    let full : batch_len c.in-Ok.batch ≡ 23 = omega (arith, c.len-in-loop-count.ensures.len, c.len-in-loop-count.ensures.few, c.if-len-lt-BATCH.false) in
+    let full : batch_len c.in-Ok.batch ≡ 4900 = omega (arith, c.len-in-loop-count.ensures.len, c.len-in-loop-count.ensures.few, c.if-len-lt-BATCH.false) in
     record {
       seat = seat_stays c.args.token _ now new c.in-Ok.ensures.tokens so_far.seat;
       runs = c.in-Ok.ensures.goes_on full;
