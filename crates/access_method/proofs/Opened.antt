@@ -29,7 +29,8 @@ open_fault honest frames old new failed fails fault (inr (inr (limits, allowed, 
 open_fault honest frames old new failed fails fault (inr (inr (limits, allowed, front, inr (inl log)), same)) = subst IsOpenFault (sym log.0) tt
 open_fault honest frames old new failed fails fault (inr (inr (limits, allowed, front, inr (inr (block, is, damaged))), same)) = subst IsOpenFault (sym is) tt
 
--- the device was made over a file that held these bytes, and is as long as it was: so what it was refused for is of that file
+-- the device was made over a file that held these bytes, and is as long as it was: so what it was refused for
+-- is of that file
 pub not_opened_is : {D : Type 0} (d : DeviceGhosts D) (Sound : Format → List Page → Type 0) (bytes : ℕ → List ℕ) (sized : (n : ℕ) → length (bytes n) ≡ n)
     (frames n : ℕ) (before after : D) (fault : Fault)
     → d.trace before ≡ first (bytes n) → d.failures before ≡ 0 → length (d.trace after).now.seen ≡ length (d.trace before).now.seen

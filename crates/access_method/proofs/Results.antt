@@ -202,7 +202,8 @@ goes_kept {S} g laws upkeep event answer a b kind answers runs = subst (λ (came
     (goes_by g laws 0 IsSameHistory event answer a b (subst (λ (k : Kind). IsOfSession 0 k) (sym kind) tt) runs
     (λ start x y from to fits does. keeps_silent g start upkeep answer x y (subst (λ (k : Kind). EventDoes g start k answer x y) kind does)))
 
--- what was done for the store, as a result tells it: the number of actions, that they are durable, and why it was refused
+-- what was done for the store, as a result tells it: the number of actions, that they are durable, and why it
+-- was refused
 module _ {S : Type 0} (g : Ghosts S) (upkeep : Upkeep) (answer : Answer) (old new : S) (result : Result ℕ Fault) (is : result ≡ counted answer)
     (counts : Counts upkeep) (kind : AnswersUpkeep upkeep answer) (kept : StoreIsKept g upkeep answer old new) where
   number_of : (r : Result ℕ Fault) (a : Answer) → r ≡ counted a → a ≡ answer → IsCounted upkeep a → IfOk r (λ n. n ≡ (g.state old).acts)

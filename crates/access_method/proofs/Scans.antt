@@ -51,7 +51,8 @@ given_history (Ok (Some entry)) number call old new means = means.history_is
 given_history (Ok None) number call old new means = means.history_is
 given_history (Err fault) number call old new means = means
 
--- what an index is between the calls for entries: at rest since before the scan's beginning, and its call has given these
+-- what an index is between the calls for entries: at rest since before the scan's beginning, and its call has
+-- given these
 record ScanStands {S : Type 0} (g : Ghosts S) (session : ℕ) (range : Range) (first : Index S) (start : Entry → Bool) (history : List Action) (calls : List Call)
     (given : List Entry) (now : Index S) : Type 0 where
   rests : Rests g first now start history calls

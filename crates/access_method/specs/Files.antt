@@ -35,8 +35,9 @@ IsOpenFault LogDamaged = ⊤
 IsOpenFault (PageDamaged block) = ⊤
 IsOpenFault fault = ⊥
 
--- If the device has kept its model up to now, take any contents, actions and calls that fitted the index and were kept. Each image
--- that a crash leaves now is an index with the contents after a prefix of these actions, which has this number of them at least.
+-- If the device has kept its model up to now, take any contents, actions and calls that fitted the index and
+-- were kept. Each image that a crash leaves now is an index with the contents after a prefix of these
+-- actions, which has this number of them at least.
 abbrev pub StaysOnDisk : {D : Type 0} (d : DeviceGhosts D) → Ghosts (Store D d) → ℕ → Index (Store D d) → Index (Store D d) → Type 0
 StaysOnDisk d g count old new = ForEachIndexHistory g old new (λ start history calls. IndexKeeps g old start history calls
     → (image : List ℕ) → MayCrashTo (held_by d new.store).trace.now image
@@ -58,8 +59,9 @@ IsLastOver {D} d g index device Holds = (last : Store D d) × (device ≡ device
 abbrev pub IsAtRest : {S : Type 0} → Ghosts S → Format → S → Type 0
 IsAtRest g limits store = ((g.backing store).stopped ≡ false) × LogIsClosed limits (g.backing store)
 
--- Why an index is not opened in a file that held these bytes when it was taken, and whose device was left so: a call of the device failed,
--- or else what the opening of it was refused for. A sound index is refused for want of memory or of the device alone.
+-- Why an index is not opened in a file that held these bytes when it was taken, and whose device was left so:
+-- a call of the device failed, or else what the opening of it was refused for. A sound index is refused for
+-- want of memory or of the device alone.
 pub record IsNotOpened {D : Type 0} (d : DeviceGhosts D) (Sound : Format → List Page → Type 0) (bytes : ℕ → List ℕ) (frames : ℕ) (fault : Fault) (device : D) : Type 0 where
   pub cause : IsIoOr (IsRefusal (d.is_honest device) frames (first (bytes_before bytes (d.trace device))) (d.trace device)) 0 (d.failures device) fault
   pub sound : IsTrue (d.is_honest device) → AreFrames frames → (limits : Format) (pages : List Page)

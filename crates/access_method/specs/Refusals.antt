@@ -21,9 +21,10 @@ use Rattle.whole_calls.specs.declared.inserted.Inserted.{Inserted}
 use Rattle.access_method.specs.Indexes.{has_entry}
 use Rattle.access_method.specs.declared.index.Index.{Index}
 
--- What may be the cause if a call is refused between these moments. A device call failed meanwhile. The log had failed before, or a
--- counter is at its end. Another call still runs, of an open scan or in parts, and may hold a page or a frame. There are fewer frames
--- than one act needs. The log is never full, there is a session, which has no other call, and no page is damaged.
+-- What may be the cause if a call is refused between these moments. A device call failed meanwhile. The log
+-- had failed before, or a counter is at its end. Another call still runs, of an open scan or in parts, and
+-- may hold a page or a frame. There are fewer frames than one act needs. The log is never full, there is a
+-- session, which has no other call, and no page is damaged.
 abbrev pub causes_of_run : {S : Type 0} → Ghosts S → ℕ → Index S → S → Circumstances
 causes_of_run g session old new = record nothing_wrong {
   device_failed = has_failed (g.backing old.store) (g.backing new);
@@ -36,8 +37,8 @@ causes_of_run g session old new = record nothing_wrong {
 abbrev pub causes_of_vacuum : {S : Type 0} → Ghosts S → ℕ → Index S → S → Circumstances
 causes_of_vacuum g session old new = record (causes_of_run g session old new) { vacuum_runs = one_vacuums old.calls.slots.items }
 
--- ... of an insert also that its entry was there, or another row of its key, that no block can be had, or that the root is on level 31,
--- as far as these say so
+-- ... of an insert also that its entry was there, or another row of its key, that no block can be had, or
+-- that the root is on level 31, as far as these say so
 abbrev pub causes_of_aminsert : {S : Type 0} → Ghosts S → Bool → (Row → Bool) → Bool → Bool → Index S → S → Circumstances
 causes_of_aminsert g was_there key_was no_block tall old new = record (causes_of_run g 63 old new) {
   entry_was_there = was_there;
@@ -46,13 +47,13 @@ causes_of_aminsert g was_there key_was no_block tall old new = record (causes_of
   root_is_at_31 = tall;
 }
 
--- no block is left for an insert, begun with so many calls before it: none is unused, and none may be used again while it and the calls
--- of open scans run
+-- no block is left for an insert, begun with so many calls before it: none is unused, and none may be used
+-- again while it and the calls of open scans run
 abbrev pub none_is_left : ℕ → State → Bool
 none_is_left begun st = has_no_block 63 (Some begun) st
 
--- a refused insert had its cause, on a unique index maybe that another row of its key was there; and so had what an insert leaves
--- unfinished: never that its entry or its key was there
+-- a refused insert had its cause, on a unique index maybe that another row of its key was there; and so had
+-- what an insert leaves unfinished: never that its entry or its key was there
 abbrev pub InsertHasCause : {S : Type 0} → Ghosts S → Entry → Result Inserted Fault → Index S → S → Type 0
 InsertHasCause g entry (Ok inserted) old new =
     IsFaultCaused (causes_of_aminsert g false (λ r. false) (none_is_left (g.state old.store).begun (g.state new)) (is_tall (g.state new)) old new) inserted.unfinished
@@ -60,8 +61,8 @@ InsertHasCause g entry (Err fault) old new =
     HasCause (causes_of_aminsert g (has_entry g old.store entry) (other_row_is_there (g.state old.store) entry) (none_is_left (g.state old.store).begun (g.state new))
     (is_tall (g.state new)) old new) fault
 
--- Nothing hinders a call of this session between these moments: no other session's call runs, the log hasn't failed before and no
--- device call meanwhile, no counter is at its end, and there are 16 frames.
+-- Nothing hinders a call of this session between these moments: no other session's call runs, the log hasn't
+-- failed before and no device call meanwhile, no counter is at its end, and there are 16 frames.
 pub record NothingHinders {S : Type 0} (g : Ghosts S) (session : ℕ) (old : Index S) (new : S) : Type 0 where
   pub alone : another_runs old.calls.slots.items session ≡ false
   pub alive : (g.backing old.store).stopped ≡ false
@@ -75,8 +76,8 @@ pub record NothingIsOpen {S : Type 0} (g : Ghosts S) (index : Index S) : Type 0 
   pub alone : another_runs index.calls.slots.items 63 ≡ false
   pub none_dead : (block : ℕ) → state_in (g.state index.store) block ≢ HalfDead
 
--- why an insert is refused that nothing hinders: its entry was there, on a unique index another row of its key, no block is left, or
--- the root is on level 31
+-- why an insert is refused that nothing hinders: its entry was there, on a unique index another row of its
+-- key, no block is left, or the root is on level 31
 abbrev pub IsForWantOfSpace : {S : Type 0} → Ghosts S → Entry → S → S → Fault → Type 0
 IsForWantOfSpace g entry old new Exists = has_entry g old entry ≡ true
 IsForWantOfSpace g entry old new (KeyExists row) = other_row_is_there (g.state old) entry row ≡ true
@@ -84,7 +85,8 @@ IsForWantOfSpace g entry old new IndexFull = none_is_left (g.state old).begun (g
 IsForWantOfSpace g entry old new TooTall = is_tall (g.state new) ≡ true
 IsForWantOfSpace g entry old new fault = ⊥
 
--- what it leaves unfinished, begun with so many calls before it, is so because no block is left, or the root is on level 31
+-- what it leaves unfinished, begun with so many calls before it, is so because no block is left, or the root
+-- is on level 31
 abbrev pub IsOfSpace : ℕ → State → Option Fault → Type 0
 IsOfSpace begun st None = Unit {0}
 IsOfSpace begun st (Some IndexFull) = none_is_left begun st ≡ true

@@ -21,7 +21,8 @@ pub record ScanBegins {S : Type 0} (g : Ghosts S) (session : ℕ) (range : Range
   pub steps : Continues g.follows old.store new.store
   pub runs : IndexIsRun g session (HasBegun session (ToScan range)) (Some Begun) old new
 
--- the next entry of this session's scan was asked for, and this answered, as `amgettuple` tells it: its `steps`, `runs` and `answers`
+-- the next entry of this session's scan was asked for, and this answered, as `amgettuple` tells it: its
+-- `steps`, `runs` and `answers`
 pub record NextIs {S : Type 0} (g : Ghosts S) (session : ℕ) (result : Result (Option Entry) Fault) (old new : Index S) : Type 0 where
   pub steps : Continues g.follows old.store new.store
   pub runs : IndexIsRun g session (SessionGivenMeans session result) (given_outcome result) old new
@@ -32,7 +33,8 @@ abbrev pub NextsAre : {S : Type 0} → Ghosts S → ℕ → List Entry → Index
 NextsAre g session [] old new = new ≡ old
 NextsAre {S} g session (e ∷ es) old new = (mid : Index S) × NextIs g session (Ok (Some e)) old mid × NextsAre g session es mid new
 
--- these are a beginning of the sorted matches of what is there: ascending, each of them matches, and none up to the last is left out
+-- these are a beginning of the sorted matches of what is there: ascending, each of them matches, and none up
+-- to the last is left out
 pub record BeginTheMatches (is_there : Entry → Bool) (range : Range) (given : List Entry) : Type 0 where
   pub ascending : IsAscending given
   pub right : (e : Entry) → is_among given e ≡ true → (is_there e ≡ true) × (matches range e ≡ true)
@@ -44,7 +46,8 @@ pub record AreTheMatches (is_there : Entry → Bool) (range : Range) (given : Li
   pub right : (e : Entry) → is_among given e ≡ true → (is_there e ≡ true) × (matches range e ≡ true)
   pub all : (e : Entry) → is_there e ≡ true → matches range e ≡ true → is_among given e ≡ true
 
--- No action was done, and no entry has come or gone: the history that fitted before fits with these calls, and is kept if it was.
+-- No action was done, and no entry has come or gone: the history that fitted before fits with these calls,
+-- and is kept if it was.
 pub record Rests {S : Type 0} (g : Ghosts S) (old new : Index S) (start : Entry → Bool) (history : List Action) (calls : List Call) : Type 0 where
   pub then_calls : List Call
   pub fits : IndexFits g new start history then_calls

@@ -31,8 +31,9 @@ IsVacuumSeat seats session = slice_get seats session ≡ Some (Some Vacuum)
 abbrev pub NoVacuumIsOpen : List (Option Sitter) → Type 0
 NoVacuumIsOpen seats = (session : ℕ) → IsVacuumSeat seats session → ⊥
 
--- Inserts have run to their ends, and a session whose seat is free runs nothing. A session that runs a bulk delete or a cleanup is that of
--- the vacuum that goes on in parts. It runs nothing else, and there is one at most.
+-- Inserts have run to their ends, and a session whose seat is free runs nothing. A session that runs a bulk
+-- delete or a cleanup is that of the vacuum that goes on in parts. It runs nothing else, and there is one at
+-- most.
 pub record SeatsAgree (slots : List (Option Op)) (seats : List (Option Sitter)) : Type 0 where
   pub inserts : slot_of slots 63 ≡ None
   pub free : (session : ℕ) → slice_get seats session ≡ Some None → slot_of slots session ≡ None

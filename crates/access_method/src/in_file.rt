@@ -87,14 +87,16 @@ fn not_opened<S: Start>(refused: Refused<FileDevice<S>>) -> NotOpened<S>
     }
 }
 
-/// Makes an empty index of these limits in a new file of exactly its length, all of it written and synced. The file is at the
-/// path only once it is whole: a crash at any moment leaves it there, or nothing at this path. Until then it stands beside
-/// it, under the same name with `.nardsill-draft` after, where nothing else is to stand: what a stopped making left there is
-/// written over. `progress` is told of each page that is written.
+/// Makes an empty index of these limits in a new file of exactly its length, all of it written and synced.
+/// The file is at the path only once it is whole: a crash at any moment leaves it there, or nothing at this
+/// path. Until then it stands beside it, under the same name with `.nardsill-draft` after, where nothing else
+/// is to stand: what a stopped making left there is written over. `progress` is told of each page that is
+/// written.
 ///
-/// Refused with `BadLimits` (18) for limits out of their ranges, and with `Io` (2) if the path is there, before anything is done.
-/// Refused with `Io` too, and with what the system said, if a name has more bytes than the system allows, with those 15; if another
-/// makes an index at this path; or if a call of the file fails, for instance since the disk is full. What was made is removed then.
+/// Refused with `BadLimits` (18) for limits out of their ranges, and with `Io` (2) if the path is there,
+/// before anything is done. Refused with `Io` too, and with what the system said, if a name has more bytes
+/// than the system allows, with those 15; if another makes an index at this path; or if a call of the file
+/// fails, for instance since the disk is full. What was made is removed then.
 pub fn create<R: Files<File = File>, P: Progress>(
     rt: &R,
     path: &str,
@@ -163,9 +165,9 @@ fn said<D: Device>(device: &D) -> Error {
     }
 }
 
-/// Opens the pages of the index in a file, after any crash. `frames` is how many pages are in memory at once, 16 to 1,024.
-/// Refused with `Io` (2), and with what the system said, if the path isn't there, can't be opened for writing, or another has
-/// it open. Else refused as `recovery::open` is, with the device.
+/// Opens the pages of the index in a file, after any crash. `frames` is how many pages are in memory at once,
+/// 16 to 1,024. Refused with `Io` (2), and with what the system said, if the path isn't there, can't be
+/// opened for writing, or another has it open. Else refused as `recovery::open` is, with the device.
 pub fn open_store<R: Files<File = File>, S: Start>(
     rt: &R,
     alloc: Global,
@@ -206,9 +208,9 @@ pub fn open_store<R: Files<File = File>, S: Start>(
     }
 }
 
-/// Opens the index in a file, after any crash. `frames` is how many pages are in memory at once, 16 to 1,024. Refused with
-/// `Io` (2), and with what the system said, if the path isn't there, can't be opened for writing, or another has it open. Else
-/// refused as `Index::open` is, with the device.
+/// Opens the index in a file, after any crash. `frames` is how many pages are in memory at once, 16 to 1,024.
+/// Refused with `Io` (2), and with what the system said, if the path isn't there, can't be opened for
+/// writing, or another has it open. Else refused as `Index::open` is, with the device.
 pub fn open<R: Files<File = File>, S: Start>(
     rt: &R,
     alloc: Global,
@@ -244,16 +246,17 @@ pub fn open<R: Files<File = File>, S: Start>(
     }
 }
 
-/// An index that was closed: what its last checkpoint answered, and the device, whose file is closed when it is let go.
+/// An index that was closed: what its last checkpoint answered, and the device, whose file is closed when it
+/// is let go.
 #[derive(Drop)]
 pub struct Closed<D> {
     pub written: Result<u64, Fault>,
     pub device: D,
 }
 
-/// Closes an index: makes all that was done durable, writes the pages to their places, closes the log, and gives the device back.
-/// `written` is how many actions there were since the opening. It is refused with `Io` (2) and `Stopped` (3): what was made
-/// durable before is so still, and the next open finds it in the log.
+/// Closes an index: makes all that was done durable, writes the pages to their places, closes the log, and
+/// gives the device back. `written` is how many actions there were since the opening. It is refused with `Io`
+/// (2) and `Stopped` (3): what was made durable before is so still, and the next open finds it in the log.
 pub fn close<D: Device>(index: Index<Store<D>>) -> Closed<D>
     ensures number { IfOk result.written (λ n. n ≡ (state_of D.Device index.store).acts) }
     // All of them are on the disk: whatever a crash leaves has them.

@@ -1,5 +1,5 @@
-//! The index of one user: its calls, each run to its end, or a bulk delete and a cleanup in parts; and one in a file, made, opened and
-//! closed.
+//! The index of one user: its calls, each run to its end, or a bulk delete and a cleanup in parts; and one in
+//! a file, made, opened and closed.
 #![tactic(auto)]
 
 mod draft;

@@ -19,7 +19,7 @@ use Rattle.index_copy.proofs.Entries.{distinct_ascending, one_test, or_left, or_
 use Rattle.index_copy.proofs.Going.{gains_twice, honest_before, refused_more, refused_then}
 use Rattle.index_copy.specs.Batches.{BreaksOff, GivesBatch, batch_len, is_in_batch}
 use Rattle.index_copy.specs.Copies.{CopiesScan, IsCopied, IsNotCopied, IsRefusedOne, IsStopped, ThenAnswers, WasAsked}
-use Rattle.index_copy.specs.Copying.{Gains, GoesOn, IsRefusedFor}
+use Rattle.index_copy.specs.Copying.{Gains, FitsOn, IsPutRefusedFor}
 use Rattle.index_copy.specs.declared.batch.Batch.{Batch}
 use Rattle.index_copy.specs.declared.copying.NotCopied.{NotCopied}
 use Rattle.index_copy.specs.declared.copying.NotCopied.TheVariants.{NotGiven, NotPut}
@@ -66,7 +66,7 @@ pub asked_so_far : {S : Type 0} (g : Ghosts S) (session : ℕ) (given : List Ent
 asked_so_far g session given old new gives = record { given = given; last = new; answer = None; gives = gives; then_is = refl }
 
 module _ {S T : Type 0} (g : Ghosts S) (h : Ghosts T) (laws : Laws h) (session count : ℕ) (old mid new : Index S) (into_old into_mid into_new : Index T)
-    (steps : Continues h.follows into_mid.store into_new.store) (goes : ForEachIndexHistory h into_old into_mid (GoesOn h into_old into_mid))
+    (steps : Continues h.follows into_mid.store into_new.store) (goes : ForEachIndexHistory h into_old into_mid (FitsOn h into_old into_mid))
     (copied : HasCopied g h session count old mid into_old into_mid) (batch : Batch) (b : GivesBatch g session mid new batch)
   where
     -- what is among both lists
@@ -106,7 +106,7 @@ module _ {S T : Type 0} (g : Ghosts S) (h : Ghosts T) (laws : Laws h) (session c
     }
 
     -- one of a batch was refused
-    pub refused_in : (fault : Fault) → ForEachIndexHistory h into_mid into_new (λ start history calls. IsRefusedFor h (is_in_batch batch) into_mid.store fault)
+    pub refused_in : (fault : Fault) → ForEachIndexHistory h into_mid into_new (λ start history calls. IsPutRefusedFor h (is_in_batch batch) into_mid.store fault)
         → IsRefusedOne g h session old new into_old into_new fault
     refused_in fault refused = record {
       given = copied.given ++ b.given;
@@ -158,7 +158,7 @@ module _ {S : Type 0} (g : Ghosts S) (laws : Laws g) (session : ℕ) (range : Ra
 
         -- or one of its entries was refused
         pub refused_all : (fault : Fault) → IsRefusedOne g h session begun now into_old into_new fault
-            → ForEachIndexHistory g before new (λ start history calls. ForEachIndexHistory h into_old into_new (λ begin actions calls_then. IsRefusedFor h (has_entry g before.store) into_old.store fault))
+            → ForEachIndexHistory g before new (λ start history calls. ForEachIndexHistory h into_old into_new (λ begin actions calls_then. IsPutRefusedFor h (has_entry g before.store) into_old.store fault))
         refused_all fault refused honest start history calls fits honest_then begin actions calls_then fitted =
             let then = honest_before g laws now new steps honest in
             let there : (e : Entry) → is_among refused.given e ≡ true → has_entry g before.store e ≡ true = λ e among. elim refused.ends [

@@ -19,7 +19,7 @@ use Rattle.whole_calls.specs.declared.inserted.Inserted.{Inserted}
 use Rattle.access_method.specs.Indexes.{ForEachIndexHistory, IndexInserts, InsertsOrKeeps, SameTokens, has_entry, slots_within}
 use Rattle.access_method.specs.declared.index.Index.{Index}
 use Rattle.index_copy.proofs.Entries.{or_left, or_right, or_turned}
-use Rattle.index_copy.specs.Copying.{Gains, GoesOn, IsRefusedFor}
+use Rattle.index_copy.specs.Copying.{Gains, FitsOn, IsPutRefusedFor}
 
 -- what holds of a fault holds of a result that is refused with it
 pub err_as : {T : Type 0} (r : Result T Fault) (fault : Fault) (P : Fault → Type 0) → IsErrAnd r (λ e. e ≡ fault) → P fault → IfErr r P
@@ -34,12 +34,12 @@ pub tokens_twice : {S : Type 0} (old mid new : Index S) → SameTokens old mid �
 tokens_twice old mid new a b = record { seats_is = b.seats_is ∙ a.seats_is; given_is = b.given_is ∙ a.given_is }
 
 -- it goes on if nothing is done
-pub goes_still : {S : Type 0} (g : Ghosts S) (now : Index S) → ForEachIndexHistory g now now (GoesOn g now now)
+pub goes_still : {S : Type 0} (g : Ghosts S) (now : Index S) → ForEachIndexHistory g now now (FitsOn g now now)
 goes_still g now honest start history calls fits = record { then_history = history; then_calls = calls; fits = fits; keeps = λ kept. kept }
 
 -- a run of events goes on
 goes_run : {S : Type 0} (g : Ghosts S) (session : ℕ) (Tells : Moment S → Moment S → Type 0) (came : Option Answer) (old new : Index S) (start : Entry → Bool) (history : List Action) (calls : List Call)
-    → CallRuns g session Tells came (slots_within old) (slots_within new) start history calls → GoesOn g old new start history calls
+    → CallRuns g session Tells came (slots_within old) (slots_within new) start history calls → FitsOn g old new start history calls
 goes_run g session Tells came old new start history calls run = record {
   then_history = run.then_history;
   then_calls = run.then_calls;
@@ -49,7 +49,7 @@ goes_run g session Tells came old new start history calls run = record {
 
 -- ... and so does an insert
 pub goes_inserted : {S : Type 0} (g : Ghosts S) (entry : Entry) (result : Result Inserted Fault) (old new : Index S)
-    → IndexInserts g 63 entry result old new → ForEachIndexHistory g old new (GoesOn g old new)
+    → IndexInserts g 63 entry result old new → ForEachIndexHistory g old new (FitsOn g old new)
 goes_inserted g entry (Ok inserted) old new (inl goes) honest start history calls fits = goes_run g 63 _ _ old new start history calls (goes honest start history calls fits)
 goes_inserted g entry (Ok inserted) old new (inr short) honest start history calls fits = goes_run g 63 _ _ old new start history calls (short.goes honest start history calls fits)
 goes_inserted g entry (Err fault) old new goes honest start history calls fits = goes_run g 63 _ _ old new start history calls (goes honest start history calls fits)
@@ -59,8 +59,8 @@ module _ {S : Type 0} (g : Ghosts S) (laws : Laws g)
     pub honest_before : (old new : Index S) → Continues g.follows old.store new.store → (g.backing new.store).honest ≡ true → (g.backing old.store).honest ≡ true
     honest_before old new steps honest = (laws.follows_later old.store new.store (steps old.store (laws.follows_same old.store))).honest honest
 
-    pub goes_twice : (old mid new : Index S) → Continues g.follows mid.store new.store → ForEachIndexHistory g old mid (GoesOn g old mid)
-        → ForEachIndexHistory g mid new (GoesOn g mid new) → ForEachIndexHistory g old new (GoesOn g old new)
+    pub goes_twice : (old mid new : Index S) → Continues g.follows mid.store new.store → ForEachIndexHistory g old mid (FitsOn g old mid)
+        → ForEachIndexHistory g mid new (FitsOn g mid new) → ForEachIndexHistory g old new (FitsOn g old new)
     goes_twice old mid new steps a b honest start history calls fits =
         let first = a (honest_before mid new steps honest) start history calls fits in
         let then = b honest start first.then_history first.then_calls first.fits in
@@ -71,7 +71,7 @@ module _ {S : Type 0} (g : Ghosts S) (laws : Laws g)
           keeps = λ kept. then.keeps (first.keeps kept);
         }
 
-    module _ (old mid new : Index S) (steps : Continues g.follows mid.store new.store) (goes : ForEachIndexHistory g old mid (GoesOn g old mid)) (came more all : Entry → Bool)
+    module _ (old mid new : Index S) (steps : Continues g.follows mid.store new.store) (goes : ForEachIndexHistory g old mid (FitsOn g old mid)) (came more all : Entry → Bool)
         (gained : ForEachIndexHistory g old mid (λ start history calls. Gains g came old.store mid.store))
       where
         -- what has come then and before
@@ -86,9 +86,9 @@ module _ {S : Type 0} (g : Ghosts S) (laws : Laws g)
             ∙ ap (λ (b : Bool). b || has_entry g old.store e) (sym (joined e))
 
         -- what was refused then, was refused for what has come before, too
-        pub refused_then : (fault : Fault) → ForEachIndexHistory g mid new (λ start history calls. IsRefusedFor g more mid.store fault)
+        pub refused_then : (fault : Fault) → ForEachIndexHistory g mid new (λ start history calls. IsPutRefusedFor g more mid.store fault)
             → ((e : Entry) → came e ≡ true → all e ≡ true) → ((e : Entry) → more e ≡ true → all e ≡ true)
-            → ForEachIndexHistory g old new (λ start history calls. IsRefusedFor g all old.store fault)
+            → ForEachIndexHistory g old new (λ start history calls. IsPutRefusedFor g all old.store fault)
         refused_then fault refused came_is more_is honest start history calls fits row is =
             let then = honest_before mid new steps honest in
             let first = goes then start history calls fits in
@@ -119,7 +119,7 @@ gains_one g entry inserted result old new is inserts honest start history calls 
 -- ... and one that is refused is refused for its own key
 pub refused_one : {S : Type 0} (g : Ghosts S) (entry : Entry) (fault : Fault) (result : Result Inserted Fault) (old new : Index S) → result ≡ Err fault
     → ForEachIndexHistory g old new (λ start history calls. InsertsOrKeeps g entry result old.store new.store)
-    → ForEachIndexHistory g old new (λ start history calls. IsRefusedFor g (same_entry entry) old.store fault)
+    → ForEachIndexHistory g old new (λ start history calls. IsPutRefusedFor g (same_entry entry) old.store fault)
 refused_one g entry fault result old new is inserts honest start history calls fits row key =
     let told : InsertsOrKeeps g entry (Err fault) old.store new.store = rw is at (inserts honest start history calls fits) in
     let was = told.key_was_there row key in
@@ -132,7 +132,7 @@ refused_one g entry fault result old new is inserts honest start history calls f
     }
 
 -- what is refused for some entries, is refused for more
-pub refused_more : {T : Type 0} (h : Ghosts T) (few all : Entry → Bool) (old : T) (fault : Fault) → ((e : Entry) → few e ≡ true → all e ≡ true) → IsRefusedFor h few old fault → IsRefusedFor h all old fault
+pub refused_more : {T : Type 0} (h : Ghosts T) (few all : Entry → Bool) (old : T) (fault : Fault) → ((e : Entry) → few e ≡ true → all e ≡ true) → IsPutRefusedFor h few old fault → IsPutRefusedFor h all old fault
 refused_more h few all old fault within refused row is =
     let twice = refused row is in
     let other : Entry = with_row twice.entry row in

@@ -16,7 +16,8 @@ batch_len batch = length batch.first.items + length batch.others.items
 abbrev pub is_in_batch : Batch → Entry → Bool
 is_in_batch batch e = is_among batch.first.items e || is_among batch.others.items e
 
--- The session's scan gave these entries, one after the other, and they are those of the batch: 4900; or fewer, and then it had given all.
+-- The session's scan gave these entries, one after the other, and they are those of the batch: 4900; or
+-- fewer, and then it had given all.
 pub record GivesBatch {S : Type 0} (g : Ghosts S) (session : ℕ) (old new : Index S) (batch : Batch) : Type 0 where
   pub given : List Entry
   pub last : Index S

@@ -8,7 +8,7 @@ use Rattle.index_model.specs.Order.{is_among}
 use Rattle.index_model.specs.declared.entry.Entry.{Entry}
 use Rattle.index_model.specs.declared.fault.Fault.{Fault}
 use Rattle.page_action.specs.declared.page_store.PageStore.{Ghosts}
-use Rattle.index_copy.specs.Copying.{Gains, IsRefusedFor}
+use Rattle.index_copy.specs.Copying.{Gains, IsPutRefusedFor}
 use Rattle.index_copy.specs.declared.copying.NotCopied.{NotCopied}
 use Rattle.index_copy.specs.declared.copying.NotCopied.TheVariants.{NotGiven, NotPut}
 
@@ -40,7 +40,7 @@ pub record IsRefusedOne {S T : Type 0} (g : Ghosts S) (h : Ghosts T) (session : 
   pub last : Index S
   pub gives : NextsAre g session given old last
   pub ends : (new ≡ last) ⊎ NextIs g session (Ok None) last new
-  pub refused : ForEachIndexHistory h into_old into_new (λ start history calls. IsRefusedFor h (is_among given) into_old.store fault)
+  pub refused : ForEachIndexHistory h into_old into_new (λ start history calls. IsPutRefusedFor h (is_among given) into_old.store fault)
 
 -- why no more of a scan was copied
 abbrev pub IsStopped : {S T : Type 0} → Ghosts S → Ghosts T → ℕ → Index S → Index S → Index T → Index T → NotCopied → Type 0
@@ -59,4 +59,4 @@ pub record IsCopied {S T : Type 0} (g : Ghosts S) (h : Ghosts T) (count : ℕ) (
 -- an entry of the first store was refused so
 abbrev pub IsNotCopied : {S T : Type 0} → Ghosts S → Ghosts T → S → Index T → Index T → NotCopied → Type 0
 IsNotCopied g h from old new (NotGiven fault) = ⊤
-IsNotCopied g h from old new (NotPut fault) = ForEachIndexHistory h old new (λ start history calls. IsRefusedFor h (has_entry g from) old.store fault)
+IsNotCopied g h from old new (NotPut fault) = ForEachIndexHistory h old new (λ start history calls. IsPutRefusedFor h (has_entry g from) old.store fault)

@@ -12,7 +12,7 @@ use Rattle.page_action.specs.Causes.{with_row}
 use Rattle.page_action.specs.declared.page_store.PageStore.{Ghosts}
 
 -- what fitted before fits with these actions and calls, and is kept if it was
-pub record GoesOn {S : Type 0} (g : Ghosts S) (old new : Index S) (start : Entry → Bool) (history : List Action) (calls : List Call) : Type 0 where
+pub record FitsOn {S : Type 0} (g : Ghosts S) (old new : Index S) (start : Entry → Bool) (history : List Action) (calls : List Call) : Type 0 where
   pub then_history : List Action
   pub then_calls : List Call
   pub fits : IndexFits g new start then_history then_calls
@@ -22,7 +22,8 @@ pub record GoesOn {S : Type 0} (g : Ghosts S) (old new : Index S) (start : Entry
 abbrev pub Gains : {S : Type 0} → Ghosts S → (Entry → Bool) → S → S → Type 0
 Gains g came old new = (e : Entry) → has_entry g new e ≡ (came e || has_entry g old e)
 
--- one of the entries that come has a key that another row has too, this one: one that comes, or one that was there
+-- one of the entries that come has a key that another row has too, this one: one that comes, or one that was
+-- there
 pub record HasKeyTwice (comes was_there : Entry → Bool) (row : Row) : Type 0 where
   pub entry : Entry
   pub is_one : comes entry ≡ true
@@ -30,5 +31,5 @@ pub record HasKeyTwice (comes was_there : Entry → Bool) (row : Row) : Type 0 w
   pub taken : (comes (with_row entry row) || was_there (with_row entry row)) ≡ true
 
 -- if an entry that comes was refused because its key was there with a row, it has a key twice
-abbrev pub IsRefusedFor : {S : Type 0} → Ghosts S → (Entry → Bool) → S → Fault → Type 0
-IsRefusedFor g comes old fault = (row : Row) → fault ≡ KeyExists row → HasKeyTwice comes (has_entry g old) row
+abbrev pub IsPutRefusedFor : {S : Type 0} → Ghosts S → (Entry → Bool) → S → Fault → Type 0
+IsPutRefusedFor g comes old fault = (row : Row) → fault ≡ KeyExists row → HasKeyTwice comes (has_entry g old) row

@@ -8,10 +8,10 @@ use index_model::Entry;
 /// How many entries a batch may have.
 pub(crate) const BATCH: usize = 4_900;
 
-/// Entries that stand one after the other, 4,900 at most. Those of the first list are put before the others. A leaf of 50 that
-/// overflows is split into 26 and 25, and entries in order never come back to the 26. So of 49 entries 26 are put first, and the 23
-/// between them, evenly spread, fill the halves then. One place of a leaf stays free, because an entry between two leaves may come
-/// to either.
+/// Entries that stand one after the other, 4,900 at most. Those of the first list are put before the others.
+/// A leaf of 50 that overflows is split into 26 and 25, and entries in order never come back to the 26. So of
+/// 49 entries 26 are put first, and the 23 between them, evenly spread, fill the halves then. One place of a
+/// leaf stays free, because an entry between two leaves may come to either.
 #[derive(Drop)]
 pub(crate) struct Batch {
     pub(crate) first: ArrayVec<Entry, 2_600>,

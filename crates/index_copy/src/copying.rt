@@ -7,7 +7,7 @@ ghost use Rattle.access_method.specs.Tokens.{seat_of};
 ghost use Rattle.access_method.specs.declared.token.ScanToken.{ScanToken as TheToken};
 ghost use Rattle.page_action.specs.States.{Continues};
 ghost use Rattle.schedule.specs.Sessions.{op_of};
-ghost use Rattle.index_copy.specs.Copying.{GoesOn};
+ghost use Rattle.index_copy.specs.Copying.{FitsOn};
 ghost use Rattle.index_copy.specs.Copies.{IsCopied, IsNotCopied, CopiesScan, IsStopped, WasAsked, SeatIsKept};
 
 use crate::asking::next_batch;
@@ -44,7 +44,7 @@ fn copy_scan<S: PageStore, T: PageStore, P: Progress>(
     ensures stopped { IfErr result (IsStopped S.PageStore T.PageStore token.session from.old from.new
         into.old into.new) }
     ensures goes_on { ForEachIndexHistory T.PageStore into.old into.new
-        (GoesOn T.PageStore into.old into.new) }
+        (FitsOn T.PageStore into.old into.new) }
     ensures seats { SeatIsKept token from.old from.new }
     ensures tokens { SameTokens into.old into.new }
 {
@@ -86,7 +86,7 @@ pub fn copy<S: PageStore, T: PageStore, P: Progress>(
     ensures rests { ForEachIndexHistory S.PageStore from.old from.new
         (Rests S.PageStore from.old from.new) }
     ensures goes_on { ForEachIndexHistory T.PageStore into.old into.new
-        (GoesOn T.PageStore into.old into.new) }
+        (FitsOn T.PageStore into.old into.new) }
     ensures copies { IfOk result (λ count. ForEachIndexHistory S.PageStore from.old from.new
         (λ start history calls. IsCopied S.PageStore T.PageStore count from.old.store into.old
         into.new)) }

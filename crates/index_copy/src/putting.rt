@@ -5,7 +5,7 @@ ghost use Rattle.access_method.specs.Indexes.{ForEachIndexHistory, SameTokens};
 ghost use Rattle.index_model.specs.Order.{is_among};
 ghost use Rattle.page_action.specs.States.{Continues};
 ghost use Rattle.index_copy.specs.Batches.{is_in_batch};
-ghost use Rattle.index_copy.specs.Copying.{Gains, GoesOn, IsRefusedFor};
+ghost use Rattle.index_copy.specs.Copying.{Gains, FitsOn, IsPutRefusedFor};
 
 use crate::batch::Batch;
 use access_method::Index;
@@ -17,12 +17,12 @@ use page_action::PageStore;
 fn put_each<S: PageStore>(index: &mut Index<S>, entries: &[Entry]) -> Result<(), Fault>
     ensures steps { Continues S.follows index.old.store index.new.store }
     ensures goes_on { ForEachIndexHistory S.PageStore index.old index.new
-        (GoesOn S.PageStore index.old index.new) }
+        (FitsOn S.PageStore index.old index.new) }
     ensures gains { OnOk result (ForEachIndexHistory S.PageStore index.old index.new
         (λ start history calls. Gains S.PageStore (is_among entries.now) index.old.store
         index.new.store)) }
     ensures refused { IfErr result (λ fault. ForEachIndexHistory S.PageStore index.old index.new
-        (λ start history calls. IsRefusedFor S.PageStore (is_among entries.now) index.old.store
+        (λ start history calls. IsPutRefusedFor S.PageStore (is_among entries.now) index.old.store
         fault)) }
     ensures tokens { SameTokens index.old index.new }
 {
@@ -37,12 +37,12 @@ fn put_each<S: PageStore>(index: &mut Index<S>, entries: &[Entry]) -> Result<(),
 pub(crate) fn put_batch<S: PageStore>(index: &mut Index<S>, batch: &Batch) -> Result<(), Fault>
     ensures steps { Continues S.follows index.old.store index.new.store }
     ensures goes_on { ForEachIndexHistory S.PageStore index.old index.new
-        (GoesOn S.PageStore index.old index.new) }
+        (FitsOn S.PageStore index.old index.new) }
     ensures gains { OnOk result (ForEachIndexHistory S.PageStore index.old index.new
         (λ start history calls. Gains S.PageStore (is_in_batch batch.now) index.old.store
         index.new.store)) }
     ensures refused { IfErr result (λ fault. ForEachIndexHistory S.PageStore index.old index.new
-        (λ start history calls. IsRefusedFor S.PageStore (is_in_batch batch.now) index.old.store
+        (λ start history calls. IsPutRefusedFor S.PageStore (is_in_batch batch.now) index.old.store
         fault)) }
     ensures tokens { SameTokens index.old index.new }
 {

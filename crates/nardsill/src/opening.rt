@@ -16,8 +16,8 @@ use std::alloc::Global;
 use std::fs::File;
 use std::os::fd::AsRawFd;
 
-/// The file that an opening is given, and another open file of it, which only syncs. If there is none, C gives
-/// the same one twice.
+/// The file that an opening is given, and another open file of it, which only syncs. If there is none, C
+/// gives the same one twice.
 #[repr(C)]
 #[derive(Drop)]
 pub struct OpenFiles {

@@ -9,9 +9,9 @@ use crate::handle::Handle;
 use index_model::Fault;
 
 /// Gives `handle` what syncs the file of the index that `from` has. So a thread may sync it while another
-/// makes calls of `from`. Tells the descriptor of the open file by which it syncs, for a forked child to close.
-/// Nothing of what is asked is read. Refused with `NoSession` (12) if `from` has no index, or none that was
-/// opened with a second open file; and with `NoMemory` (1): nothing is changed then.
+/// makes calls of `from`. Tells the descriptor of the open file by which it syncs, for a forked child to
+/// close. Nothing of what is asked is read. Refused with `NoSession` (12) if `from` has no index, or none
+/// that was opened with a second open file; and with `NoMemory` (1): nothing is changed then.
 pub fn share(handle: &mut Handle, from: &mut Handle, _ask: OpenAsk) -> Answer
     ensures { (from.new ≡ from.old)
         × IsShared result handle.old.index handle.new.index handle.old.dead handle.new.dead }

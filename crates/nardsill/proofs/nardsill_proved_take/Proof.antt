@@ -89,7 +89,8 @@ nardsill_proved_take_spec 𝓤 𝓛 𝓜 𝓡 wired =
     use1 𝓛 (later (some (λ (δ : GName).
     ‵ ((MutRef (named 1) κ' Q).own_val (record { ref_ptr = (b', o'); ghost_name = δ; now = g }) (vptr b' o' ∷ [])) ⊛ ‵
     (flent κ' (Body (mem Q) b' o' δ))))) (lends_ref 𝓛 Q (named 1) κ' g b' o') $ await ! tt $ pick ! (λ δ. split ! $
-    -- [the file's loan; what gives it back; its token; the handle's loan; what gives it back; its token; what was asked; the locals]
+    -- [the file's loan; what gives it back; its token; the handle's loan; what gives it back; its token; what
+    -- was asked; the locals]
     first ! $ blocks ! $ sets ! (of_opd ! (get ! refl)) refl (tt, tt) $ sets ! (of_opd ! (get ! refl)) refl (tt, tt) $ sets_last !
     (addr ! (through ! refl (stop !))) refl (tt, tt) $ exec ! 𝓣.C 𝓣.Λ Ev steps.t-2 (at_ret Ev Post) $
     sets ! (of_opd ! (get ! refl)) refl (tt, tt) $
@@ -111,7 +112,8 @@ nardsill_proved_take_spec 𝓤 𝓛 𝓜 𝓡 wired =
     (fact 𝓤 ((ls.1.0 ≡ g) × IsTaken D G B r h.index (ls.0).index h.dead (ls.0).dead)))) (id⊢ 𝓤 _) $ pick !
     (λ ls. split ! $ move ! (1 ∷ []) $ heard ! ((ls.1.0 ≡ g) × IsTaken D G B r h.index (ls.0).index h.dead (ls.0).dead) (λ told.
     fsplit ! $ fsplit ! $ move ! (1 ∷ []) $ drop ! $ move ! (1 ∷ []) $ fsplit ! $ move ! (1 ∷ []) $ drop ! $ fsplit ! $ move ! (1 ∷ []) $ drop ! $
-    -- [the file's last value; the handle's; the tokens and the answer; what gives the file back; what gives the handle back; the locals]
+    -- [the file's last value; the handle's; the tokens and the answer; what gives the file back; what gives
+    -- the handle back; the locals]
     move ! (2 ∷ []) $ split ! $ split ! $ lft_end ! tt $ move ! (1 ∷ []) $ split ! $ lft_end ! tt $ move ! (1 ∷ []) $ drop ! $
     move ! (0 ∷ 5 ∷ 3 ∷ []) $ use3 𝓛 (later (‵ (part_at Q full_share ls.1.0 b' o'))) (ref_back 𝓛 Q κ' δ ls.1.0 b' o') $ await ! tt $
     move ! (1 ∷ 4 ∷ 3 ∷ []) $ use3 𝓛 (later (‵ (part_at R full_share ls.0 b o))) (ref_back 𝓛 R κ γ ls.0 b o) $ await ! tt $

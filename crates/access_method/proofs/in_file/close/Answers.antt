@@ -11,7 +11,8 @@ use Rattle.world.specs.Reopening.{IsIndexAfterPrefix}
 use Rattle.access_method.proofs.Closing.{both_told, both_ok}
 use Rattle.access_method.proofs.in_file.close.Goals as goal
 
--- nothing was done but to make durable, so a crash leaves all of the same actions; the device is that of the index after it
+-- nothing was done but to make durable, so a crash leaves all of the same actions; the device is that of the
+-- index after it
 pub returns-clause-stands : goal.returns-clause-stands
 returns-clause-stands g c =
     let d = g.D.Device in

@@ -4,7 +4,7 @@ use Rattle.access_method.specs.Tokens.{seat_of}
 use Rattle.page_action.specs.States.{Continues}
 use Rattle.schedule.specs.Sessions.{op_of}
 use Rattle.index_copy.proofs.Copied.{HasCopied}
-use Rattle.index_copy.specs.Copying.{GoesOn}
+use Rattle.index_copy.specs.Copying.{FitsOn}
 use Rattle.index_copy.proofs.copying.copy_scan.Given as goal
 
 abbrev pub decreases-loop-count : goal.decreases-loop-count
@@ -18,6 +18,6 @@ invariant-loop-count g l = record {
   into_steps : Continues g.T.PageStore.follows l.initial.into.store l.into.store;
   from_tokens : SameTokens l.initial.from l.from;
   tokens : SameTokens l.initial.into l.into;
-  goes_on : ForEachIndexHistory g.T.PageStore l.initial.into l.into (GoesOn g.T.PageStore l.initial.into l.into);
+  goes_on : ForEachIndexHistory g.T.PageStore l.initial.into l.into (FitsOn g.T.PageStore l.initial.into l.into);
   copied : HasCopied g.S.PageStore g.T.PageStore l.token.session l.count l.initial.from l.from l.initial.into l.into;
 }
