@@ -248,15 +248,7 @@ pub fn hire<
     let share = all.split_off(1, 0);
     let own = open(&mut desk, share, last);
     pending.push_reserved(None);
-    let shared = first(
-        world,
-        history,
-        pending,
-        session_seats,
-        book,
-        desk,
-        sessions,
-    );
+    let shared = first(world, history, pending, session_seats, book, desk, sessions);
     let threads = all_started::<J, K, G::Hand>(&handles);
     put(run, Slot::Open(shared, threads.again()));
     let hand = run.gate.hand(last);

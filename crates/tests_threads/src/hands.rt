@@ -325,15 +325,7 @@ fn seated<S: PageStore, T: DeadRows + Drop, J: JobsOn<S>>(
         pending.push_reserved(None);
         hands.push_reserved(Some(Hand::Rests(Resting { seat })));
     }
-    let shared = first(
-        world,
-        history,
-        pending,
-        session_seats,
-        book,
-        desk,
-        sessions,
-    );
+    let shared = first(world, history, pending, session_seats, book, desk, sessions);
     (shared, hands)
 }
 
