@@ -115,20 +115,50 @@ pub fn create<R: Files<File = File>, P: Progress>(
         ((not_made.fault ≡ Fault.BadLimits) × (AreLimits (made limits.now) → ⊥))
         ⊎ ((not_made.fault ≡ Fault.Io) × AreLimits (made limits.now))) }
 {
+    match begin(rt, path, limits, progress) {
+        Ok(device) => match place(rt, path) {
+            Ok(()) => Ok(device),
+            Err(error) => Err(not_made(error)),
+        },
+        Err(refused) => Err(refused),
+    }
+}
+
+/// Begins what [`create`] does: the index is made in a file that stands beside the path, until [`place`]
+/// gives it its own name, or [`discard`] removes it. Entries may be put into it before. Refused as `create`
+/// is: what was made is removed then.
+pub fn begin<R: Files<File = File>, P: Progress>(
+    rt: &R,
+    path: &str,
+    limits: &Limits,
+    progress: &P,
+) -> Result<FileDevice<Zeros>, NotMade>
+    ensures allowed { OnOk result (AreLimits (made limits.now)) }
+    ensures made { IfOk result (λ device.
+        IsEmptyIndex (made limits.now) (⟦<FileDevice<Zeros> as Device>⟧.trace device).now) }
+    // So it can be opened, also after a crash.
+    ensures own { IfOk result (λ device.
+        CrashesToEmpty (made limits.now) (⟦<FileDevice<Zeros> as Device>⟧.trace device).now) }
+    ensures exact { IfOk result (λ device.
+        length (⟦<FileDevice<Zeros> as Device>⟧.trace device).now.seen ≡ needed_length (made limits.now)) }
+    ensures cause { IfErr result (λ not_made.
+        ((not_made.fault ≡ Fault.BadLimits) × (AreLimits (made limits.now) → ⊥))
+        ⊎ ((not_made.fault ≡ Fault.Io) × AreLimits (made limits.now))) }
+{
     if !limits.are_valid() {
         return Err(NotMade {
             fault: Fault::BadLimits,
             error: None,
         });
     }
-    match create_valid(rt, path, limits, progress) {
+    match begin_valid(rt, path, limits, progress) {
         Ok(device) => Ok(device),
         Err(error) => Err(not_made(error)),
     }
 }
 
-// Makes an empty index in a new file. Refused with what the system said.
-fn create_valid<R: Files<File = File>, P: Progress>(
+// Makes an empty index in a new file beside the path. Refused with what the system said.
+fn begin_valid<R: Files<File = File>, P: Progress>(
     rt: &R,
     path: &str,
     limits: &Limits,
@@ -153,8 +183,24 @@ fn create_valid<R: Files<File = File>, P: Progress>(
         let _ = fs::remove_file(rt, draft.as_str());
         return Err(said(&watched.device));
     }
-    place_draft(rt, draft.as_str(), path)?;
     Ok(watched.device)
+}
+
+/// Gives the file that [`begin`] made for this path its own name, which it has after a crash too. Its device
+/// is to be held meanwhile, and what was done with the index to be durable. Refused with what the system
+/// said if something has that name by now, the file system has no links, or a call fails: the file has no
+/// name then.
+pub fn place<R: Files<File = File>>(rt: &R, path: &str) -> io::Result<()> {
+    let draft = draft_of(path)?;
+    place_draft(rt, draft.as_str(), path)
+}
+
+/// Removes the file that [`begin`] made for this path, while its device is held. If the system doesn't let it
+/// be removed, the next making at this path writes over it.
+pub fn discard<R: Files<File = File>>(rt: &R, path: &str) {
+    if let Ok(draft) = draft_of(path) {
+        let _ = fs::remove_file(rt, draft.as_str());
+    }
 }
 
 // What the system said of the last call of a device that failed.
