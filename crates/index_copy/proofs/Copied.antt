@@ -16,13 +16,13 @@ use Rattle.access_method.specs.declared.index.Index.{Index}
 use Rattle.access_method.proofs.Scans.{rests_twice}
 use Rattle.index_copy.proofs.Nexts.{nexts_to, nexts_twice}
 use Rattle.index_copy.proofs.Entries.{distinct_ascending, one_test, or_left, or_right}
-use Rattle.index_copy.proofs.Going.{gains_twice, honest_before, refused_more, refused_then}
+use Rattle.index_copy.proofs.Going.{gains_twice, honest_before, refused_later, refused_more, refused_then}
 use Rattle.index_copy.specs.Batches.{BreaksOff, GivesBatch, batch_len, is_in_batch}
-use Rattle.index_copy.specs.Copies.{CopiesScan, IsCopied, IsNotCopied, IsRefusedOne, IsStopped, ThenAnswers, WasAsked}
-use Rattle.index_copy.specs.Copying.{Gains, FitsOn, IsPutRefusedFor}
+use Rattle.index_copy.specs.Copies.{CopiesScan, IsCauseOfStop, IsCopied, IsNotCopied, IsRefusedOne, IsStopped, ThenAnswers, WasAsked}
+use Rattle.index_copy.specs.Copying.{Gains, FitsOn, IsPutRefusedFor, WasRefused}
 use Rattle.index_copy.specs.declared.batch.Batch.{Batch}
 use Rattle.index_copy.specs.declared.copying.NotCopied.{NotCopied}
-use Rattle.index_copy.specs.declared.copying.NotCopied.TheVariants.{NotGiven, NotPut}
+use Rattle.index_copy.specs.declared.copying.NotCopied.TheVariants.{NotGiven, NotPut, TooMany}
 
 -- so many entries were given by the scan, and the other index has gained these
 pub record HasCopied {S T : Type 0} (g : Ghosts S) (h : Ghosts T) (session count : ℕ) (old new : Index S) (into_old into_new : Index T) : Type 0 where
@@ -59,6 +59,16 @@ module _ {S : Type 0} (g : Ghosts S) (session : ℕ) (given : List Entry) (old m
     answer = Some (Err fault);
     gives = nexts_twice g session given b.given old mid b.last before b.gives;
     then_is = b.refused;
+  }
+
+  -- ... which breaks the scan off
+  pub breaks_after : (fault : Fault) → BreaksOff g session fault mid new → BreaksOff g session fault old new
+  breaks_after fault b = record {
+    given = given ++ b.given;
+    last = b.last;
+    gives = nexts_twice g session given b.given old mid b.last before b.gives;
+    refused = b.refused;
+    cause = b.cause;
   }
 
 -- nothing more was asked for
@@ -106,9 +116,11 @@ module _ {S T : Type 0} (g : Ghosts S) (h : Ghosts T) (laws : Laws h) (session c
     }
 
     -- one of a batch was refused
-    pub refused_in : (fault : Fault) → ForEachIndexHistory h into_mid into_new (λ start history calls. IsPutRefusedFor h (is_in_batch batch) into_mid.store fault)
+    pub refused_in : (fault : Fault) → Continues h.follows into_old.store into_mid.store
+        → ForEachIndexHistory h into_mid into_new (λ start history calls. IsPutRefusedFor h (is_in_batch batch) into_mid.store fault) → WasRefused h fault into_mid into_new
         → IsRefusedOne g h session old new into_old into_new fault
-    refused_in fault refused = record {
+    refused_in fault before refused cause = record {
+      cause = refused_later h laws into_old into_mid into_new fault before goes cause;
       given = copied.given ++ b.given;
       last = b.last;
       gives = all_gives;
@@ -172,3 +184,14 @@ module _ {S : Type 0} (g : Ghosts S) (laws : Laws g) (session : ℕ) (range : Ra
             → ForEachIndexHistory g before new (λ start history calls. IsNotCopied g h before.store into_old into_new not_copied)
         stopped_all (NotGiven fault) stopped honest start history calls fits = tt
         stopped_all (NotPut fault) stopped honest start history calls fits = refused_all fault stopped honest start history calls fits
+        stopped_all TooMany stopped honest start history calls fits = tt
+
+-- why a scan of all was stopped, is why the copy was
+pub cause_of : {S T : Type 0} (g : Ghosts S) (h : Ghosts T) (session : ℕ) (before begun now new : Index S) (into_old into_new : Index T)
+    → ScanBegins g session (record { from = None; below = None }) before begun → Continues g.follows now.store new.store
+    → (not_copied : NotCopied) → IsStopped g h session begun now into_old into_new not_copied → IsCauseOfStop g h before new into_old into_new not_copied
+cause_of g h session before begun now new into_old into_new begins steps (NotGiven fault) stopped =
+    inr (record { session = session; begun = begun; last = now; begins = begins; came = stopped; steps = steps })
+cause_of g h session before begun now new into_old into_new begins steps (NotPut fault) stopped = stopped.cause
+cause_of g h session before begun now new into_old into_new begins steps TooMany stopped =
+    record { session = session; begun = begun; last = now; begins = begins; came = stopped; steps = steps }

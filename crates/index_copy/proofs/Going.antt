@@ -19,7 +19,7 @@ use Rattle.whole_calls.specs.declared.inserted.Inserted.{Inserted}
 use Rattle.access_method.specs.Indexes.{ForEachIndexHistory, IndexInserts, InsertsOrKeeps, SameTokens, has_entry, slots_within}
 use Rattle.access_method.specs.declared.index.Index.{Index}
 use Rattle.index_copy.proofs.Entries.{or_left, or_right, or_turned}
-use Rattle.index_copy.specs.Copying.{Gains, FitsOn, IsPutRefusedFor}
+use Rattle.index_copy.specs.Copying.{Gains, FitsOn, IsPutRefusedFor, WasRefused}
 
 -- what holds of a fault holds of a result that is refused with it
 pub err_as : {T : Type 0} (r : Result T Fault) (fault : Fault) (P : Fault → Type 0) → IsErrAnd r (λ e. e ≡ fault) → P fault → IfErr r P
@@ -70,6 +70,17 @@ module _ {S : Type 0} (g : Ghosts S) (laws : Laws g)
           fits = then.fits;
           keeps = λ kept. then.keeps (first.keeps kept);
         }
+
+    -- an insert that was refused then, was refused later than before
+    pub refused_later : (old mid new : Index S) (fault : Fault) → Continues g.follows old.store mid.store → ForEachIndexHistory g old mid (FitsOn g old mid)
+        → WasRefused g fault mid new → WasRefused g fault old new
+    refused_later old mid new fault steps goes was = record {
+      entry = was.entry;
+      last = was.last;
+      steps = steps_twice g.follows old.store mid.store was.last.store steps was.steps;
+      goes = goes_twice old mid was.last was.steps goes was.goes;
+      cause = was.cause;
+    }
 
     module _ (old mid new : Index S) (steps : Continues g.follows mid.store new.store) (goes : ForEachIndexHistory g old mid (FitsOn g old mid)) (came more all : Entry → Bool)
         (gained : ForEachIndexHistory g old mid (λ start history calls. Gains g came old.store mid.store))

@@ -3,3 +3,4 @@ pub mod Going
 pub mod Nexts
 pub mod Seats
 pub mod Copied
+pub mod Whole

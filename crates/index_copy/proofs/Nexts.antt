@@ -6,6 +6,8 @@ use Rattle.index_model.specs.declared.fault.Fault.{Fault}
 use Rattle.page_action.specs.declared.page_store.PageStore.{Ghosts}
 use Rattle.session_calls.specs.declared.op.Op.{Op}
 use Rattle.whole_calls.specs.Giving.{RunsIfGiven}
+use Rattle.access_method.specs.Indexes.{ForEachIndexHistory}
+use Rattle.access_method.specs.Refusals.{GiveHasCause}
 use Rattle.access_method.specs.Scans.{NextIs, NextsAre}
 use Rattle.access_method.specs.declared.index.Index.{Index}
 use Rattle.index_copy.proofs.Entries.{among_one_more}
@@ -83,5 +85,6 @@ module _ {S : Type 0} (g : Ghosts S) (session : ℕ) (old now : Index S) (batch 
   }
 
   -- or it was refused
-  pub breaks_off : (fault : Fault) (new : Index S) → NextIs g session (Err fault) now new → BreaksOff g session fault old new
-  breaks_off fault new next = record { given = fills.given; last = now; gives = fills.gives; refused = next }
+  pub breaks_off : (fault : Fault) (new : Index S) → NextIs g session (Err fault) now new → ForEachIndexHistory g now new (GiveHasCause g session (Err fault) now new.store)
+      → BreaksOff g session fault old new
+  breaks_off fault new next cause = record { given = fills.given; last = now; gives = fills.gives; refused = next; cause = cause }

@@ -1,5 +1,7 @@
 -- The entries of a batch, and what a scan gives into one.
 use Rattle.std.specs.Prelude.{◌≡◌, ◌≢◌, ◌≤◌, ◌||◌, ◌+◌, ℕ, Bool, None, Ok, Err, List, length}
+use Rattle.access_method.specs.Indexes.{ForEachIndexHistory}
+use Rattle.access_method.specs.Refusals.{GiveHasCause}
 use Rattle.access_method.specs.Scans.{NextIs, NextsAre}
 use Rattle.access_method.specs.declared.index.Index.{Index}
 use Rattle.index_model.specs.Order.{is_among}
@@ -28,9 +30,10 @@ pub record GivesBatch {S : Type 0} (g : Ghosts S) (session : ℕ) (old new : Ind
   pub whole : length given ≡ 4900 → new ≡ last
   pub ends : length given ≢ 4900 → NextIs g session (Ok None) last new
 
--- the session's scan gave entries, and then it was refused so
+-- the session's scan gave entries, and then it was refused so, for a cause
 pub record BreaksOff {S : Type 0} (g : Ghosts S) (session : ℕ) (fault : Fault) (old new : Index S) : Type 0 where
   pub given : List Entry
   pub last : Index S
   pub gives : NextsAre g session given old last
   pub refused : NextIs g session (Err fault) last new
+  pub cause : ForEachIndexHistory g last new (GiveHasCause g session (Err fault) last new.store)

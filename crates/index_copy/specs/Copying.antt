@@ -1,6 +1,7 @@
 -- What putting entries leaves of an index.
-use Rattle.std.specs.Prelude.{◌≡◌, ◌≢◌, ◌||◌, Bool, true, List}
-use Rattle.access_method.specs.Indexes.{IndexFits, IndexKeeps, has_entry}
+use Rattle.std.specs.Prelude.{◌≡◌, ◌≢◌, ◌||◌, Bool, true, Err, List}
+use Rattle.access_method.specs.Indexes.{ForEachIndexHistory, IndexFits, IndexKeeps, has_entry}
+use Rattle.access_method.specs.Refusals.{InsertHasCause}
 use Rattle.access_method.specs.declared.index.Index.{Index}
 use Rattle.index_model.specs.Actions.{Action}
 use Rattle.index_model.specs.Calls.{Call}
@@ -9,6 +10,7 @@ use Rattle.index_model.specs.declared.entry.Entry.{Entry}
 use Rattle.index_model.specs.declared.fault.Fault.{Fault}
 use Rattle.index_model.specs.declared.fault.Fault.TheVariants.{KeyExists}
 use Rattle.page_action.specs.Causes.{with_row}
+use Rattle.page_action.specs.States.{Continues}
 use Rattle.page_action.specs.declared.page_store.PageStore.{Ghosts}
 
 -- what fitted before fits with these actions and calls, and is kept if it was
@@ -33,3 +35,11 @@ pub record HasKeyTwice (comes was_there : Entry → Bool) (row : Row) : Type 0 w
 -- if an entry that comes was refused because its key was there with a row, it has a key twice
 abbrev pub IsPutRefusedFor : {S : Type 0} → Ghosts S → (Entry → Bool) → S → Fault → Type 0
 IsPutRefusedFor g comes old fault = (row : Row) → fault ≡ KeyExists row → HasKeyTwice comes (has_entry g old) row
+
+-- it went on, and then an insert into it was refused so, for a cause
+pub record WasRefused {S : Type 0} (g : Ghosts S) (fault : Fault) (old new : Index S) : Type 0 where
+  pub entry : Entry
+  pub last : Index S
+  pub steps : Continues g.follows old.store last.store
+  pub goes : ForEachIndexHistory g old last (FitsOn g old last)
+  pub cause : ForEachIndexHistory g last new (λ start history calls. InsertHasCause g entry (Err fault) last new.store)

@@ -1,3 +1,5 @@
 pub mod Batches
 pub mod Copying
 pub mod Copies
+pub mod Onto
+pub mod InFile

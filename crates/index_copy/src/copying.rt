@@ -8,7 +8,7 @@ ghost use Rattle.access_method.specs.declared.token.ScanToken.{ScanToken as TheT
 ghost use Rattle.page_action.specs.States.{Continues};
 ghost use Rattle.schedule.specs.Sessions.{op_of};
 ghost use Rattle.index_copy.specs.Copying.{FitsOn};
-ghost use Rattle.index_copy.specs.Copies.{IsCopied, IsNotCopied, CopiesScan, IsStopped, WasAsked, SeatIsKept};
+ghost use Rattle.index_copy.specs.Copies.{IsCauseOfStop, IsCopied, IsNotCopied, CopiesScan, IsStopped, WasAsked, SeatIsKept};
 
 use crate::asking::next_batch;
 use crate::batch::BATCH;
@@ -24,6 +24,8 @@ pub enum NotCopied {
     NotGiven(Fault),
     /// The other index refused to take one.
     NotPut(Fault),
+    /// There are 2^64 - 4,901 or more.
+    TooMany,
 }
 
 // Puts what an open scan gives into another index, and answers how many entries these are.
@@ -63,7 +65,7 @@ fn copy_scan<S: PageStore, T: PageStore, P: Progress>(
             return Ok(count);
         }
     }
-    Err(NotCopied::NotGiven(Fault::Stopped))
+    Err(NotCopied::TooMany)
 }
 
 /// Puts each entry of an index into another one, and answers how many these are: 0 to 2^64 - 1. `all` is what
@@ -93,6 +95,8 @@ pub fn copy<S: PageStore, T: PageStore, P: Progress>(
     ensures refused { IfErr result (λ not_copied. ForEachIndexHistory S.PageStore from.old from.new
         (λ start history calls. IsNotCopied S.PageStore T.PageStore from.old.store into.old into.new
         not_copied)) }
+    ensures cause { IfErr result
+        (IsCauseOfStop S.PageStore T.PageStore from.old from.new into.old into.new) }
     ensures from_tokens { (t : TheToken) → seat_of from.new.seats t ≡ seat_of from.old.seats t }
     ensures tokens { SameTokens into.old into.new }
 {

@@ -4,6 +4,10 @@
 mod asking;
 mod batch;
 mod copying;
+mod in_file;
+mod onto;
 mod putting;
 
 pub use copying::{NotCopied, copy};
+pub use in_file::{CopiedInFile, HalfCopy, NotInFile, copy_to_file};
+pub use onto::{CopiedOnto, NoCopy, copy_onto};

@@ -5,7 +5,7 @@ ghost use Rattle.access_method.specs.Indexes.{ForEachIndexHistory, SameTokens};
 ghost use Rattle.index_model.specs.Order.{is_among};
 ghost use Rattle.page_action.specs.States.{Continues};
 ghost use Rattle.index_copy.specs.Batches.{is_in_batch};
-ghost use Rattle.index_copy.specs.Copying.{Gains, FitsOn, IsPutRefusedFor};
+ghost use Rattle.index_copy.specs.Copying.{Gains, FitsOn, IsPutRefusedFor, WasRefused};
 
 use crate::batch::Batch;
 use access_method::Index;
@@ -24,6 +24,7 @@ fn put_each<S: PageStore>(index: &mut Index<S>, entries: &[Entry]) -> Result<(),
     ensures refused { IfErr result (λ fault. ForEachIndexHistory S.PageStore index.old index.new
         (λ start history calls. IsPutRefusedFor S.PageStore (is_among entries.now) index.old.store
         fault)) }
+    ensures cause { IfErr result (λ fault. WasRefused S.PageStore fault index.old index.new) }
     ensures tokens { SameTokens index.old index.new }
 {
     for entry in entries {
@@ -44,6 +45,7 @@ pub(crate) fn put_batch<S: PageStore>(index: &mut Index<S>, batch: &Batch) -> Re
     ensures refused { IfErr result (λ fault. ForEachIndexHistory S.PageStore index.old index.new
         (λ start history calls. IsPutRefusedFor S.PageStore (is_in_batch batch.now) index.old.store
         fault)) }
+    ensures cause { IfErr result (λ fault. WasRefused S.PageStore fault index.old index.new) }
     ensures tokens { SameTokens index.old index.new }
 {
     put_each(index, batch.first.as_slice())?;

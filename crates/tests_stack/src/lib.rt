@@ -7,6 +7,10 @@
 #[cfg(test)]
 mod base;
 #[cfg(test)]
+mod commit_parts;
+#[cfg(test)]
+mod copies;
+#[cfg(test)]
 mod dead;
 #[cfg(test)]
 mod devices;

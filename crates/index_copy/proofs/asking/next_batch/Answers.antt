@@ -1,5 +1,9 @@
-use Rattle.std.proofs.Common.{◌≡◌, ◌<◌, ◌≤◌, ◌∙◌, ap, arith, Ok, Err, Some, None}
+use Rattle.std.proofs.Common.{◌≡◌, ◌<◌, ◌≤◌, ◌∙◌, ap, subst, arith, Result, Ok, Err, Option, Some, None}
+use Rattle.access_method.specs.Indexes.{ForEachIndexHistory}
+use Rattle.access_method.specs.Refusals.{GiveHasCause}
 use Rattle.access_method.specs.Scans.{NextIs}
+use Rattle.index_model.specs.declared.entry.Entry.{Entry}
+use Rattle.index_model.specs.declared.fault.Fault.{Fault}
 use Rattle.index_copy.specs.Batches.{batch_len}
 use Rattle.index_copy.proofs.Going.{steps_twice, tokens_twice}
 use Rattle.index_copy.proofs.Nexts.{breaks_off, fills_more, gives_last, gives_whole, next_as, runs_on}
@@ -50,6 +54,7 @@ returns-in-Err-clause-breaks g c =
     let next : NextIs g.S.PageStore session c.amgettuple.result now new = record { steps = went.steps; runs = went.runs so_far.seat so_far.runs; answers = went.answers } in
     breaks_off g.S.PageStore session c.args.index.now now c.loop-token.batch so_far.fills c.in-Err.fault new
     (next_as g.S.PageStore session c.amgettuple.result (Err c.in-Err.fault) now new c.in-Err.is next)
+    (subst (λ (r : Result (Option Entry) Fault). ForEachIndexHistory g.S.PageStore now new (GiveHasCause g.S.PageStore session r now new.store)) c.in-Err.is (went.cause so_far.seat))
 
 pub returns-clause-gives : goal.returns-clause-gives
 returns-clause-gives g c =

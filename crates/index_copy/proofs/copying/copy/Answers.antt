@@ -1,11 +1,11 @@
-use Rattle.std.proofs.Common.{Option, None, List, ap, refl}
+use Rattle.std.proofs.Common.{Option, None, List, ap, refl, inl}
 use Rattle.std.proofs.lemmas.Result.{IfErr-weaker, IfOk-weaker}
 use Rattle.access_method.specs.Indexes.{ForEachIndexHistory, SeatBecomes}
 use Rattle.access_method.specs.Scans.{Rests, ScanBegins}
 use Rattle.access_method.specs.Tokens.{seat_of}
 use Rattle.access_method.specs.declared.token.Sitter.{Sitter}
 use Rattle.index_model.specs.declared.range.Range.{Range}
-use Rattle.index_copy.proofs.Copied.{closed_rests, copied_all, stopped_all}
+use Rattle.index_copy.proofs.Copied.{cause_of, closed_rests, copied_all, stopped_all}
 use Rattle.index_copy.proofs.Seats.{closes, seats_back}
 use Rattle.index_copy.proofs.copying.copy.Goals as goal
 
@@ -56,6 +56,19 @@ returns-clause-refused g c =
     (stopped_all G g.met.S.PageStore.laws token.session range (λ e. refl) before begun now begins
     (λ given nexts. law.first token.session range before begun given begins nexts) (λ last given nexts next. law.all token.session range before begun last given begins nexts next)
     c.amendscan-ended.new.self c.amendscan-ended.ensures.steps g.T.PageStore c.args.into.now c.copy_scan-copied.new.into)
+    c.copy_scan-copied.ensures.stopped
+
+pub returns-in-Err-clause-cause : goal.returns-in-Err-clause-cause
+returns-in-Err-clause-cause g c = inl c.in-Err.ensures.cause
+
+pub returns-clause-cause : goal.returns-clause-cause
+returns-clause-cause g c =
+    let token = c.in-Ok.token in
+    let begins : ScanBegins g.S.PageStore token.session (record { from = None; below = None }) c.args.from.now c.ambeginscan.new.self =
+    record { steps = c.ambeginscan.ensures.steps; runs = c.in-Ok.ensures.runs } in
+    IfErr-weaker c.copy_scan-copied.result _ _
+    (cause_of g.S.PageStore g.T.PageStore token.session c.args.from.now c.ambeginscan.new.self c.copy_scan-copied.new.from c.amendscan-ended.new.self
+    c.args.into.now c.copy_scan-copied.new.into begins c.amendscan-ended.ensures.steps)
     c.copy_scan-copied.ensures.stopped
 
 pub returns-clause-from_tokens : goal.returns-clause-from_tokens

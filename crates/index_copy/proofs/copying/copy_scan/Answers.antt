@@ -1,6 +1,6 @@
 use Rattle.std.proofs.Common.{◌≡◌, ◌≢◌, arith}
 use Rattle.index_copy.specs.Batches.{batch_len}
-use Rattle.index_copy.proofs.Copied.{asked_batch, asked_refused, asked_so_far, copied_last, copied_more, refused_in}
+use Rattle.index_copy.proofs.Copied.{asked_batch, asked_refused, asked_so_far, breaks_after, copied_last, copied_more, refused_in}
 use Rattle.index_copy.proofs.Going.{goes_twice, steps_twice, tokens_twice}
 use Rattle.index_copy.proofs.Seats.{seat_stays}
 use Rattle.index_copy.proofs.copying.copy_scan.Goals as goal
@@ -9,6 +9,11 @@ pub returns-in-Err-clause-asked : goal.returns-in-Err-clause-asked
 returns-in-Err-clause-asked g c =
     let copied = c.loop-count.invariant.copied in
     asked_refused g.S.PageStore c.args.token.session copied.given c.args.from.now c.loop-count.from c.next_batch.new.index copied.gives c.in-Err.fault c.in-Err.ensures.breaks
+
+pub returns-in-Err-clause-stopped : goal.returns-in-Err-clause-stopped
+returns-in-Err-clause-stopped g c =
+    let copied = c.loop-count.invariant.copied in
+    breaks_after g.S.PageStore c.args.token.session copied.given c.args.from.now c.loop-count.from c.next_batch.new.index copied.gives c.in-Err.fault c.in-Err.ensures.breaks
 
 pub returns-in-Err-put_batch-clause-asked : goal.returns-in-Err-put_batch-clause-asked
 returns-in-Err-put_batch-clause-asked g c =
@@ -20,7 +25,7 @@ returns-in-Err-put_batch-clause-stopped g c =
     let so_far = c.loop-count.invariant in
     refused_in g.S.PageStore g.T.PageStore g.met.T.PageStore.laws c.args.token.session c.loop-count.count c.args.from.now c.loop-count.from c.next_batch.new.index
     c.args.into.now c.loop-count.into c.put_batch.new.index c.put_batch.ensures.steps so_far.goes_on so_far.copied c.in-Ok.batch c.in-Ok.ensures.gives c.in-Err-put_batch.fault
-    c.in-Err-put_batch.ensures.refused
+    so_far.into_steps c.in-Err-put_batch.ensures.refused c.in-Err-put_batch.ensures.cause
 
 pub returns-in-Err-put_batch-clause-goes_on : goal.returns-in-Err-put_batch-clause-goes_on
 returns-in-Err-put_batch-clause-goes_on g c =
@@ -69,3 +74,9 @@ pub returns-clause-asked : goal.returns-clause-asked
 returns-clause-asked g c =
     let copied = c.loop-count.invariant.copied in
     asked_so_far g.S.PageStore c.args.token.session copied.given c.args.from.now c.loop-count.from copied.gives
+
+pub returns-clause-stopped : goal.returns-clause-stopped
+returns-clause-stopped g c =
+    let copied = c.loop-count.invariant.copied in
+    let many = copied.many in
+    record { given = copied.given; gives = copied.gives; many = omega (arith, many, c.loop-count-test.false) }

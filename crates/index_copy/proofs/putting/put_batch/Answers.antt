@@ -2,7 +2,7 @@ use Rattle.std.proofs.Common.{refl, ◌∙◌}
 use Rattle.std.proofs.lemmas.Result.{IfErr-weaker, on_ok_weaker}
 use Rattle.index_model.specs.Order.{is_among}
 use Rattle.index_copy.proofs.Entries.{among_both, or_left, or_right}
-use Rattle.index_copy.proofs.Going.{err_as, gains_twice, goes_twice, refused_more, refused_then}
+use Rattle.index_copy.proofs.Going.{err_as, gains_twice, goes_twice, refused_later, refused_more, refused_then}
 use Rattle.index_copy.specs.Batches.{is_in_batch}
 use Rattle.index_copy.proofs.putting.put_batch.Goals as goal
 
@@ -15,6 +15,16 @@ returns-in_err-put_each-clause-refused g c =
     (λ honest start history calls fits. refused_more g.S.PageStore (is_among first) (is_in_batch batch) c.args.index.now.store fault
     (λ e was. among_both first batch.first.items batch.others.items batch.others.items e c.as_slice.ensures.value refl ∙ or_left (is_among first e) (is_among batch.others.items e) was)
     (c.in_err-put_each.ensures.refused honest start history calls fits))
+
+pub returns-in_err-put_each-clause-cause : goal.returns-in_err-put_each-clause-cause
+returns-in_err-put_each-clause-cause g c =
+    err_as c.from_residual.result c.in_err-put_each.field-0.0 _ c.from_residual.ensures.1 c.in_err-put_each.ensures.cause
+
+pub returns-clause-cause : goal.returns-clause-cause
+returns-clause-cause g c =
+    IfErr-weaker c.put_each-2.result _ _
+    (λ fault was. refused_later g.S.PageStore g.met.S.PageStore.laws c.args.index.now c.put_each.new.index c.put_each-2.new.index fault c.put_each.ensures.steps c.put_each.ensures.goes_on was)
+    c.put_each-2.ensures.cause
 
 pub returns-clause-goes_on : goal.returns-clause-goes_on
 returns-clause-goes_on g c =

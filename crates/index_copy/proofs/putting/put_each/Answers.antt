@@ -1,8 +1,11 @@
-use Rattle.std.proofs.Common.{take, ap, ◌||◌, List, ◌∙◌}
+use Rattle.std.proofs.Common.{take, ap, subst, ◌||◌, List, Result, ◌∙◌}
 use Rattle.std.proofs.lemmas.List.{take_all}
-use Rattle.access_method.specs.Indexes.{has_entry}
+use Rattle.access_method.specs.Indexes.{ForEachIndexHistory, has_entry}
+use Rattle.access_method.specs.Refusals.{InsertHasCause}
 use Rattle.index_model.specs.Order.{is_among, same_entry}
 use Rattle.index_model.specs.declared.entry.Entry.{Entry}
+use Rattle.index_model.specs.declared.fault.Fault.{Fault}
+use Rattle.whole_calls.specs.declared.inserted.Inserted.{Inserted}
 use Rattle.index_copy.proofs.Entries.{among_at, among_first, among_next}
 use Rattle.index_copy.proofs.Going.{err_as, gains_one, gains_twice, goes_inserted, goes_twice, refused_one, refused_then, steps_twice, tokens_twice}
 use Rattle.index_copy.proofs.putting.put_each.Goals as goal
@@ -23,6 +26,22 @@ returns-in_err-aminsert-clause-refused g c =
     (is_among (take at entries)) (same_entry entry) (is_among entries) c.loop-entry.invariant.gains fault
     (refused_one g.S.PageStore entry fault c.aminsert.result c.loop-entry.index c.aminsert.new.self c.in_err-aminsert.was c.aminsert.ensures.inserts)
     (λ e. among_first at entries e) (λ e. among_at entries at entry e c.loop-entry-test.true c.entry-item.is))
+
+pub returns-in_err-aminsert-clause-cause : goal.returns-in_err-aminsert-clause-cause
+returns-in_err-aminsert-clause-cause g c =
+    let entry = c.entry-item.result in
+    let fault = c.in_err-aminsert.field-0.0 in
+    let last = c.loop-entry.index in
+    let new = c.aminsert.new.self in
+    err_as c.from_residual.result fault _ c.from_residual.ensures.1
+    (record {
+      entry = entry;
+      last = last;
+      steps = c.loop-entry.invariant.steps;
+      goes = c.loop-entry.invariant.goes_on;
+      cause = subst (λ (r : Result Inserted Fault). ForEachIndexHistory g.S.PageStore last new (λ start history calls. InsertHasCause g.S.PageStore entry r last new.store))
+          c.in_err-aminsert.was c.aminsert.ensures.cause;
+    })
 
 pub loop-entry-preserved : goal.loop-entry-preserved
 loop-entry-preserved g c =

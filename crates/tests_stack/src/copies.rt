@@ -1,0 +1,145 @@
+//! Small indexes that are copied into others. Their pages have 4 items.
+
+use access_method::Index;
+use index_copy::{NotCopied, copy};
+use index_model::{Entry, Fault, Limits, NoProgress};
+use page_action::PageStore;
+use std::alloc::Global;
+use std::test::{Fail, *};
+use tests_support::plain::{begin_scan, end_scan, index_over, insert, next};
+use tests_support::small::{ALL, entry, limits, pages};
+
+// How many entries an index has at most that is copied.
+const ENTRIES: u8 = 60;
+
+// The entry of this key, and of a row that tells the key.
+fn of(key: u8) -> Entry {
+    entry(key, 1 + u16::from(key))
+}
+
+// Each key below 60 once, if each number below 60 is asked for.
+fn shuffled(number: u8) -> u8 {
+    u8::try_from(u32::from(number) * 7 % 60).unwrap_or(0)
+}
+
+// Puts entries of so many different keys, 60 at most, in shuffled order.
+fn fill<S: PageStore>(index: &mut Index<S>, entries: u8) -> Result<(), Fault> {
+    for number in 0..entries {
+        insert(index, of(shuffled(number)))?;
+    }
+    Ok(())
+}
+
+// Whether two indexes give the same entries, one after the other, 200 at most.
+fn give_alike<S: PageStore, T: PageStore>(
+    a: &mut Index<S>,
+    b: &mut Index<T>,
+) -> Result<bool, Fault> {
+    let (of_a, of_b) = (begin_scan(a, ALL)?, begin_scan(b, ALL)?);
+    for _ in 0..200 {
+        let (given, other) = (next(a, of_a)?, next(b, of_b)?);
+        if given != other {
+            return Ok(false);
+        }
+        if given.is_none() {
+            end_scan(a, of_a)?;
+            end_scan(b, of_b)?;
+            return Ok(true);
+        }
+    }
+    Ok(false)
+}
+
+// Why a copy stopped: the number of the fault, and after 100 that of the index that is read.
+fn number(not_copied: NotCopied) -> u64 {
+    match not_copied {
+        NotCopied::NotGiven(fault) => 100 + u64::from(fault.number()),
+        NotCopied::NotPut(fault) => u64::from(fault.number()),
+        NotCopied::TooMany => 200,
+    }
+}
+
+// Copies an index of so many entries and one more into an empty one of these limits, and answers what that
+// came to, and whether both give the same.
+fn copied(
+    alloc: Global,
+    entries: u8,
+    more: Option<Entry>,
+    limits_of_copy: Limits,
+) -> Result<(Result<u64, u64>, bool), Fault> {
+    let mut from = index_over(alloc, pages(alloc, limits(64))?)?;
+    fill(&mut from, entries)?;
+    if let Some(more) = more {
+        insert(&mut from, more)?;
+    }
+    let mut into = index_over(alloc, pages(alloc, limits_of_copy)?)?;
+    let came = copy(&mut from, &mut into, &NoProgress, u64::from(entries)).map_err(number);
+    Ok((came, give_alike(&mut from, &mut into)?))
+}
+
+#[test]
+fn all_entries_are_copied(rt: HostRuntime) -> Result<(), Fail> {
+    assert_eq!(rt;
+        copied(rt.alloc(), ENTRIES, None, limits(64)),
+        Ok((Ok(60), true))
+    );
+    Ok(())
+}
+
+#[test]
+fn nothing_is_copied(rt: HostRuntime) -> Result<(), Fail> {
+    assert_eq!(rt; copied(rt.alloc(), 0, None, limits(8)), Ok((Ok(0), true)));
+    Ok(())
+}
+
+// Limits of pages with 50 items.
+const WIDE: Limits = Limits {
+    items: 50,
+    pages: 64,
+    log_bytes: 65_536,
+    unique: false,
+};
+
+// How many pages are in use after 250 inserts in ascending order, and after a copy of them.
+fn pages_used(alloc: Global) -> Result<(u32, u32), Fault> {
+    let mut from = index_over(alloc, pages(alloc, WIDE)?)?;
+    for key in 0..250 {
+        insert(&mut from, of(key))?;
+    }
+    let mut into = index_over(alloc, pages(alloc, WIDE)?)?;
+    let _came = copy(&mut from, &mut into, &NoProgress, 250);
+    Ok((from.info().pages_used, into.info().pages_used))
+}
+
+// A leaf of 50 that overflows is split in the middle, so ascending inserts leave 26 on each but the last: 9
+// leaves, the root above and block 0. A copy puts 48 on each.
+#[test]
+fn a_copy_is_filled_well(rt: HostRuntime) -> Result<(), Fail> {
+    assert_eq!(rt; pages_used(rt.alloc()), Ok((11, 8)));
+    Ok(())
+}
+
+#[test]
+fn too_few_pages_are_refused(rt: HostRuntime) -> Result<(), Fail> {
+    assert_eq!(rt;
+        copied(rt.alloc(), ENTRIES, None, limits(8)),
+        Ok((Err(8), false))
+    );
+    Ok(())
+}
+
+#[test]
+fn a_key_twice_is_refused(rt: HostRuntime) -> Result<(), Fail> {
+    let unique = Limits {
+        items: 4,
+        pages: 64,
+        log_bytes: 65_536,
+        unique: true,
+    };
+    let twice = Some(entry(30, 200));
+    assert_eq!(rt;
+        copied(rt.alloc(), ENTRIES, twice, unique),
+        Ok((Err(21), false))
+    );
+    Ok(())
+}
