@@ -26,7 +26,7 @@ pub use Rattle.world.specs.declared.world.World.{World}
 pub use Rattle.session_seats.specs.declared.job.Job.{Job}
 pub use Rattle.text_forms.specs.Printing.{answer_text}
 pub use Rattle.text_forms.specs.Spelling.{lines_of, words_of}
-pub use Rattle.command_line.specs.Commands.{DoesCommand, IsNoCommand, Named, NamesNone, PrintsCheck, PrintsCommand, PrintsCreation, PrintsDump, PrintsPlay, PrintsRunning}
+pub use Rattle.command_line.specs.Commands.{DoesCommand, IsNoCommand, Named, NamesNone, PrintsCheck, PrintsCommand, PrintsCopy, PrintsCreation, PrintsDump, PrintsPlay, PrintsRunning}
 pub use Rattle.command_line.specs.JobFiles.{SpellJobs, SpellsJob, sets_after, sets_with}
 pub use Rattle.command_line.specs.Listing.{ListsFirst, PrintsPages}
 pub use Rattle.command_line.specs.Program.{KeepsLine, named_by, program_line}

@@ -9,19 +9,19 @@ joined : {A : Type 0} (before : List A) (one : A) (more : List A) → before ++ 
 joined before one more = sym (append_assoc before (one ∷ []) more)
 
 -- the lines before these were read, and spell these jobs, with so many sets
-pub record AreRead (all here : List (List ℕ)) (set : ℕ) (jobs : List Job) : Type 0 where
+pub record AreReadSoFar (all here : List (List ℕ)) (set : ℕ) (jobs : List Job) : Type 0 where
   pub before : List (List ℕ)
   pub parts : all ≡ before ++ here
   pub counted : length before ≡ length jobs
   pub spelled : (lines : List (List ℕ)) (more : List Job) → SpellJobs set lines more → SpellJobs 0 (before ++ lines) (jobs ++ more)
 
-pub none_read : (all : List (List ℕ)) (jobs : List Job) → jobs ≡ [] → AreRead all all 0 jobs
+pub none_read : (all : List (List ℕ)) (jobs : List Job) → jobs ≡ [] → AreReadSoFar all all 0 jobs
 none_read all jobs none =
-    subst (AreRead all all 0) (sym none) (record { before = []; parts = refl; counted = refl; spelled = λ lines more is. is })
+    subst (AreReadSoFar all all 0) (sym none) (record { before = []; parts = refl; counted = refl; spelled = λ lines more is. is })
 
 -- a line more spells a job more
 pub read_on : (all here lines : List (List ℕ)) (line : List ℕ) (set : ℕ) (jobs : List Job) (job : Job) → here ≡ line ∷ lines → SpellsJob set line job
-    → AreRead all here set jobs → AreRead all lines (sets_with set job) (jobs ++ job ∷ [])
+    → AreReadSoFar all here set jobs → AreReadSoFar all lines (sets_with set job) (jobs ++ job ∷ [])
 read_on all here lines line set jobs job first spells was = record {
   before = was.before ++ line ∷ [];
   parts = was.parts ∙ ap (λ (ls : List (List ℕ)). was.before ++ ls) first ∙ joined was.before line lines;
@@ -39,19 +39,19 @@ pub after_on : (set : ℕ) (jobs : List Job) (job : Job) → ((more : List Job) 
 after_on set jobs job was more = was (job ∷ more) ∙ ap (sets_after 0) (joined jobs job more)
 
 -- the lines that were read spell the jobs
-read_jobs : (all here : List (List ℕ)) (set : ℕ) (jobs : List Job) → (read : AreRead all here set jobs) → SpellJobs 0 read.before jobs
+read_jobs : (all here : List (List ℕ)) (set : ℕ) (jobs : List Job) → (read : AreReadSoFar all here set jobs) → SpellJobs 0 read.before jobs
 read_jobs all here set jobs read =
     subst (λ (ls : List (List ℕ)). SpellJobs 0 ls jobs) (append-nil read.before)
     (subst (SpellJobs 0 (read.before ++ [])) (append-nil jobs) (read.spelled [] [] (tt {0})))
 
-pub all_read : (all here : List (List ℕ)) (set : ℕ) (jobs : List Job) → here ≡ [] → AreRead all here set jobs → SpellJobs 0 all jobs
+pub all_read : (all here : List (List ℕ)) (set : ℕ) (jobs : List Job) → here ≡ [] → AreReadSoFar all here set jobs → SpellJobs 0 all jobs
 all_read all here set jobs none read =
     subst (λ (ls : List (List ℕ)). SpellJobs 0 ls jobs)
     (sym (read.parts ∙ ap (λ (ls : List (List ℕ)). read.before ++ ls) none ∙ append-nil read.before)) (read_jobs all here set jobs read)
 
 -- ... and the line after them spells none
 pub first_no_job : (all here lines : List (List ℕ)) (line : List ℕ) (set n : ℕ) (jobs : List Job) → here ≡ line ∷ lines → n ≡ length jobs + 1 → SpellsNoJob line
-    → AreRead all here set jobs → IsFirstNoJob n all
+    → AreReadSoFar all here set jobs → IsFirstNoJob n all
 first_no_job all here lines line set n jobs first place none read = record {
   before = read.before;
   line = line;

@@ -2,9 +2,12 @@
 use Rattle.std.proofs.Common.{◌≡◌, ◌∙◌, ℕ, Bool, List, subst}
 use Rattle.command_line.specs.Left.{IfNotRun}
 use Rattle.command_line.specs.declared.dead.DeadList.{DeadList}
-use Rattle.command_line.proofs.Imports.{Option, Some, None, IsSomeAnd, IfNone, MatchOption, Appends, Keeps, IfSome_then, none-some, same_Some, IfOk-weaker, DeviceGhosts, SetGhosts, Limits, Ghosts}
-use Rattle.command_line.proofs.Imports.{State, Page, Store, World, DoesCommand, Named, PrintsCheck, PrintsCommand, PrintsCreation, PrintsDump, PrintsPlay, PrintsRunning, PrintsPages, ListsFirst}
+use Rattle.command_line.proofs.Imports.{Ok, Err, Option, Some, None, IsSomeAnd, IfNone, MatchOption, Appends, Keeps, IfSome_then, none-some, same_Some, IfOk-weaker, DeviceGhosts, SetGhosts, Limits, Ghosts}
+use Rattle.command_line.proofs.Imports.{State, Page, Store, World, DoesCommand, Named, PrintsCheck, PrintsCommand, PrintsCopy, PrintsCreation, PrintsDump, PrintsPlay, PrintsRunning, PrintsPages, ListsFirst}
 use Rattle.command_line.proofs.Imports.{PrintsReport, PrintsDamage, PrintsRunOfJobFile, End, Setting}
+use Rattle.command_line.specs.Copying.{CopyEnd, PrintsCount}
+use Rattle.command_line.specs.declared.copying.Copied.{Copied}
+use Rattle.command_line.specs.declared.copying.CopySizes.{CopySizes}
 use Rattle.command_line.specs.declared.file_commands.Created.{Created}
 use Rattle.command_line.specs.declared.file_commands.Looked.{Looked}
 use Rattle.command_line.specs.declared.left.Left.{Left}
@@ -53,6 +56,7 @@ not_run_never Q (left.Nothing end) is never = absurd (never is)
 not_run_never Q (left.Played script) is never = tt
 not_run_never Q (left.Ran ran) is never = tt
 not_run_never Q (left.Created created) is never = tt
+not_run_never Q (left.Copied copied) is never = tt
 not_run_never Q (left.Checked looked) is never = tt
 not_run_never Q (left.Dumped looked) is never = tt
 
@@ -61,6 +65,7 @@ not_run_then (left.Nothing end) is then = then is
 not_run_then (left.Played script) is then = tt
 not_run_then (left.Ran ran) is then = tt
 not_run_then (left.Created created) is then = tt
+not_run_then (left.Copied copied) is then = tt
 not_run_then (left.Checked looked) is then = tt
 not_run_then (left.Dumped looked) is then = tt
 
@@ -123,6 +128,21 @@ module _ (old mid new : Option (List ℕ)) (kept : Keeps mid new) where
     silent = λ fault is. keeps_kept _ _ _ kept (p.silent fault is);
   }
 
+  count_kept : {N : Type 0} (end : CopyEnd N) → PrintsCount old mid end → PrintsCount old new end
+  count_kept (Ok copy) p = appends_kept _ _ _ _ kept p
+  count_kept (Err not_copied) p = p
+
+  copy_kept : {D N : Type 0} (d : DeviceGhosts D) (e : DeviceGhosts N) (g : Ghosts (Store D d)) (bytes : ℕ → List ℕ) (sizes : CopySizes) (copy : Copied D N (Store D d))
+      → PrintsCopy d e g bytes sizes old mid copy → PrintsCopy d e g bytes sizes old new copy
+  copy_kept d e g bytes sizes copy p = record {
+    ends = p.ends;
+    copied = p.copied;
+    done = λ is. some_then copy.copied (p.done is) count_kept;
+    refused = p.refused;
+    cause = p.cause;
+    silent = λ fault is. keeps_kept _ _ _ kept (p.silent fault is);
+  }
+
   check_kept : {D : Type 0} (d : DeviceGhosts D) (g : Ghosts (Store D d)) (bytes : ℕ → List ℕ) (parents : Bool) (looked : Looked D (Store D d))
       → PrintsCheck d g bytes parents old mid looked → PrintsCheck d g bytes parents old new looked
   check_kept d g bytes parents looked p = record {
@@ -168,6 +188,8 @@ module _ (old mid new : Option (List ℕ)) (kept : Keeps mid new) where
       record { words = p.words; workers = p.workers; frames = p.frames; names = p.names; said = p.said; prints = running_kept d g rows bytes _ _ ran p.prints }
   does_kept d e g rows bytes named (left.Created created) p =
       record { words = p.words; limits = p.limits; names = p.names; said = p.said; prints = creation_kept e _ created p.prints }
+  does_kept d e g rows bytes named (left.Copied copy) p =
+      record { words = p.words; sizes = p.sizes; names = p.names; said = p.said; prints = copy_kept d e g bytes _ copy p.prints }
   does_kept d e g rows bytes named (left.Checked looked) p = record {
     words = p.words;
     names = p.names;

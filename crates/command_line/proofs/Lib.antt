@@ -13,4 +13,5 @@ pub mod Looked
 pub mod Named
 pub mod Shaped
 pub mod Kept
+pub mod CopiedFiles
 pub mod Needed

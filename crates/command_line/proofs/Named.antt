@@ -10,7 +10,8 @@ use Rattle.clap.specs.declared.parser.matches.Found.{Found}
 use Rattle.clap.specs.declared.parser.matches.SubCommand.{SubCommand}
 use Rattle.clap.proofs.OnLiterals.{clap_on_literals}
 use Rattle.clap.proofs.WalkLemmas.{one_text-rows}
-use Rattle.command_line.specs.CommandLine.{HasFlag, HasLimits, HasNumber, HasRunSizes, HasSetting, said_in}
+use Rattle.command_line.specs.CommandLine.{HasFlag, HasLimits, HasNumber, HasNumberIfSaid, HasRunSizes, HasSetting, HasSizes, said_in}
+use Rattle.command_line.specs.declared.copying.CopySizes.{CopySizes}
 use Rattle.command_line.proofs.Imports.{Option, Some, None, Box, none-some, same_Some, Limits, IsNoCommand, NamesNone, KeepsLine, named_by, program_line, Setting}
 
 -- clap's clauses tell all of this command line
@@ -77,6 +78,12 @@ module _ (f : Found) where
 
   pub limits_said : (l : Limits) → HasLimits (one_text f) l → HasLimits (said_in (rows_of f)) l
   limits_said l said = record { items = number_said _ _ said.items; pages = number_said _ _ said.pages; log = number_said _ _ said.log; unique = flag_said _ _ said.unique }
+
+  size_said : (name : List ℕ) (n : Option ℕ) → HasNumberIfSaid (one_text f name) n → HasNumberIfSaid (said_in (rows_of f) name) n
+  size_said name n said = subst (λ (t : Option (List ℕ)). HasNumberIfSaid t n) (one_text-rows f name) said
+
+  pub sizes_said : (s : CopySizes) → HasSizes (one_text f) s → HasSizes (said_in (rows_of f)) s
+  sizes_said s said = record { items = size_said _ _ said.items; pages = size_said _ _ said.pages; log = size_said _ _ said.log; unique = flag_said _ _ said.unique }
 
   pub setting_said : (s : Setting) → HasSetting (one_text f) s → HasSetting (said_in (rows_of f)) s
   setting_said s said = record {

@@ -62,7 +62,7 @@ entered_is app (Some at) all there none = go (find (λ s. answers_to at.0 (label
     go (Some s) is there none = is none
 
 all_commands : AreCommands (built program_line).subs
-all_commands = (λ h. h.play refl, (λ h. h.run refl, (λ h. h.create refl, (λ h. h.check refl, (λ h. h.dump refl, tt)))))
+all_commands = (λ h. h.play refl, (λ h. h.run refl, (λ h. h.create refl, (λ h. h.copy refl, (λ h. h.check refl, (λ h. h.dump refl, tt))))))
 
 -- a command is needed, so words that keep the command line name one
 pub some_named : (words : List Text) → KeepsLine words → NamesNone (named_by words) → ⊥

@@ -1,6 +1,6 @@
 -- Why no run was made.
-use Rattle.std.specs.Prelude.{length, suc}
-use Rattle.std.proofs.Common.{◌≡◌, ◌⊎◌, ◌∙◌, ◌≤◌, ℕ, List, ap, inl, inr, refl, subst, sym}
+use Rattle.std.specs.Prelude.{length}
+use Rattle.std.proofs.Common.{◌≡◌, ◌∙◌, ◌≤◌, ℕ, List, ap, inl, inr, subst, sym}
 use Rattle.device.specs.Disk.{Trace, first}
 use Rattle.index_model.specs.declared.fault.Fault.TheVariants.{NoMemory}
 use Rattle.index_model.specs.declared.format.Format.{Format}
@@ -9,7 +9,7 @@ use Rattle.recovery.specs.Index.{HasIndex}
 use Rattle.recovery.specs.Opening.{AreFrames, IsNoMemoryOrIo}
 use Rattle.sessions.specs.Finishing.{RunIsRefusedFor}
 use Rattle.access_method.specs.Files.{bytes_before}
-use Rattle.command_line.specs.RunRefusals.{IsRunNotMade, IsRunOnFileRefused, IsWorldNotOpened, IsWorldOpeningRefused, IsWorldRefusal}
+use Rattle.command_line.specs.RunRefusals.{IsRunOnFileRefused, IsWorldNotOpened, IsWorldOpeningRefused, IsWorldRefusal}
 use Rattle.command_line.proofs.Imports.{Option, Some, None, IfNone, IfOk, IsTrue, Result, Ok, Err, DeviceGhosts, SetGhosts, Fault, Ghosts, Page, Store, Job, World, IsTreeFor, IsWorldOfFile, End, AlreadyPrinted, Refused}
 
 -- the fault that a command is refused with, if it is

@@ -31,14 +31,14 @@ begun_or_refused (Checkpointed count) may = absurd may
 begun_or_refused (Refused fault) may = inr (fault, refl)
 
 -- the session's call has gone on, by so many steps
-pub record IsKeptFromReuse {S T : Type 0} (g : Ghosts S) (rows : SetGhosts T) (session : ℕ) (old new : World S T) (start : Entry → Bool) (history : List Action) (calls : List Call) : Type 0 where
+pub record HasGoneOn {S T : Type 0} (g : Ghosts S) (rows : SetGhosts T) (session : ℕ) (old new : World S T) (start : Entry → Bool) (history : List Action) (calls : List Call) : Type 0 where
   pub count : ℕ
   pub runs : WorldRuns g rows old new (replicate count (Step session)) (replicate count Going) start history calls
 
 -- as many steps as may still be made, of 2^64 - 1, and those that are left for the call, are no fewer than
 -- were left at first
-abbrev pub IsWithin : {S T : Type 0} → Ghosts S → SetGhosts T → ℕ → ℕ → World S T → World S T → Type 0
-IsWithin g rows session left old new =
+abbrev pub HasStepsLeft : {S T : Type 0} → Ghosts S → SetGhosts T → ℕ → ℕ → World S T → World S T → Type 0
+HasStepsLeft g rows session left old new =
     18446744073709551615 + steps_left (g.state new.store) (slot_of new.calls.slots.items session) ≤ left + steps_left (g.state old.store) (slot_of old.calls.slots.items session)
 
 module _ {S T : Type 0} (g : Ghosts S) (laws : Laws g) (rows : SetGhosts T) where
@@ -57,14 +57,14 @@ module _ {S T : Type 0} (g : Ghosts S) (laws : Laws g) (rows : SetGhosts T) wher
 
   module _ (session : ℕ) where
     -- no step
-    pub gone_nowhere : (a : World S T) → ForEachWorldHistory g rows a a (IsKeptFromReuse g rows session a a)
+    pub gone_nowhere : (a : World S T) → ForEachWorldHistory g rows a a (HasGoneOn g rows session a a)
     gone_nowhere a honest start history calls fits = record {
       count = 0;
       runs = record { then_history = history; then_calls = calls; ran = none_ran g laws start (snapshot_in rows a history calls) fits };
     }
 
     module _ (a b c : World S T) (step : Continues g.follows a.store b.store) (next : Continues g.follows b.store c.store)
-        (gone : ForEachWorldHistory g rows a b (IsKeptFromReuse g rows session a b)) (answer : Answer)
+        (gone : ForEachWorldHistory g rows a b (HasGoneOn g rows session a b)) (answer : Answer)
         (one : ForEachWorldHistory g rows b c (WorldIsRun g rows b c (Step session) answer)) where
       -- one step more, which answers this
       pub gone_then : ForEachWorldHistory g rows a c (IsStepped g rows [] [] session answer a c)
@@ -75,7 +75,7 @@ module _ {S T : Type 0} (g : Ghosts S) (laws : Laws g) (rows : SetGhosts T) wher
           record { count = r.count; runs = runs_then (replicate r.count (Step session)) (Step session ∷ []) (replicate r.count Going) (answer ∷ []) a b c step next start history calls r.runs t }
 
       -- ... and goes on
-      pub gone_more : answer ≡ Going → ForEachWorldHistory g rows a c (IsKeptFromReuse g rows session a c)
+      pub gone_more : answer ≡ Going → ForEachWorldHistory g rows a c (HasGoneOn g rows session a c)
       gone_more going honest start history calls fits =
           let r = gone_then honest start history calls fits in
           record {
@@ -87,8 +87,8 @@ module _ {S T : Type 0} (g : Ghosts S) (laws : Laws g) (rows : SetGhosts T) wher
 
       -- ... and leaves fewer steps for the call
       pub within_more : (before behind : ℕ) → before ≤ behind + 1 → answer ≡ Going → (g.state b.store).limits.pages ≤ 65536
-          → ForEachWorldHistory g rows a b (λ start history calls. IsWithin g rows session before a b)
-          → ForEachWorldHistory g rows a c (λ start history calls. IsWithin g rows session behind a c)
+          → ForEachWorldHistory g rows a b (λ start history calls. HasStepsLeft g rows session before a b)
+          → ForEachWorldHistory g rows a c (λ start history calls. HasStepsLeft g rows session behind a c)
       within_more before behind one_less going low within honest start history calls fits =
           let later = laws.follows_later b.store c.store (next b.store (laws.follows_same b.store)) in
           let most = within (later.honest honest) start history calls fits in
@@ -100,7 +100,7 @@ module _ {S T : Type 0} (g : Ghosts S) (laws : Laws g) (rows : SetGhosts T) wher
 
     -- so the steps that may be made are never used up
     pub within_some : (a b : World S T) (left : ℕ) → left ≤ 0 → (g.state a.store).limits.pages ≤ 65536
-        → ForEachWorldHistory g rows a b (λ start history calls. IsWithin g rows session left a b → ⊥)
+        → ForEachWorldHistory g rows a b (λ start history calls. HasStepsLeft g rows session left a b → ⊥)
     within_some a b left out low honest start history calls fits most =
         let few = steps_few g laws start (snapshot_in rows a history calls) session fits low in
         omega (arith, few, most)

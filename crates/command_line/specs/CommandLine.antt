@@ -3,6 +3,7 @@ use Rattle.std.specs.Prelude.{◌≡◌, ◌<◌, ◌^◌, true, false, Bool, �
 use Rattle.std.specs.Str.Parse.{IsNumeral, digits_value, without_leading_plus}
 use Rattle.clap.specs.Words.{Row, one_of}
 use Rattle.index_model.specs.declared.limits.Limits.{Limits}
+use Rattle.command_line.specs.declared.copying.CopySizes.{CopySizes}
 use Rattle.command_line.specs.declared.engine.Setting.{Setting}
 
 -- the text of an argument, by what was found of all
@@ -44,3 +45,16 @@ pub record HasSetting (said : List ℕ → Option (List ℕ)) (setting : Setting
 pub record HasRunSizes (said : List ℕ → Option (List ℕ)) (workers frames : ℕ) : Type 0 where
   pub workers_are : HasNumber (said (codes "workers")) workers
   pub frames_are : HasNumber (said (codes "frames")) frames
+
+-- the number is the one that the text spells; there is none if there is no text, or one that spells none
+pub record HasNumberIfSaid (said : Option (List ℕ)) (number : Option ℕ) : Type 0 where
+  pub spelled : (text : List ℕ) (spelled : ℕ) → said ≡ Some text → SpellsNumber text spelled → number ≡ Some spelled
+  pub other : (text : List ℕ) → said ≡ Some text → ((spelled : ℕ) → SpellsNumber text spelled → ⊥) → number ≡ None
+  pub absent : said ≡ None → number ≡ None
+
+-- the sizes that are said of a copy
+pub record HasSizes (said : List ℕ → Option (List ℕ)) (sizes : CopySizes) : Type 0 where
+  pub items : HasNumberIfSaid (said (codes "items")) sizes.items
+  pub pages : HasNumberIfSaid (said (codes "pages")) sizes.pages
+  pub log : HasNumberIfSaid (said (codes "log")) sizes.log_bytes
+  pub unique : HasFlag (said (codes "unique")) sizes.unique

@@ -14,7 +14,9 @@ use Rattle.index_model.specs.declared.limits.Limits.{Limits}
 use Rattle.page_action.specs.declared.page_store.PageStore.{Ghosts}
 use Rattle.page_store.specs.declared.store.Store.{Store}
 use Rattle.recovery.specs.Fresh.{IsEmptyIndex, CrashesToEmpty}
-use Rattle.command_line.specs.CommandLine.{HasFlag, HasLimits, HasRunSizes, HasSetting, said_in}
+use Rattle.tree_acts.specs.TheoremKeys.{IsTreeFor}
+use Rattle.command_line.specs.CommandLine.{HasFlag, HasLimits, HasRunSizes, HasSetting, HasSizes, said_in}
+use Rattle.command_line.specs.Copying.{IsCopyFromFile, IsToldCopy, PrintsCount}
 use Rattle.command_line.specs.Files.{IsLookedAt, IsCheckRefused, IsDumpRefused, IsOpeningRefused}
 use Rattle.command_line.specs.Listing.{PrintsPages, ListsFirst, IsDoneOrRefused}
 use Rattle.command_line.specs.Reporting.{PrintsReport, PrintsDamage, AreSound, IsCheckEnd}
@@ -22,6 +24,8 @@ use Rattle.command_line.specs.Running.{IsRunEnd}
 use Rattle.command_line.specs.RunRefusals.{IsRunOfJobFileRefused}
 use Rattle.command_line.specs.RunningFiles.{PrintsRunOfJobFile}
 use Rattle.command_line.specs.Settings.{IsNotMade}
+use Rattle.command_line.specs.declared.copying.Copied.{Copied}
+use Rattle.command_line.specs.declared.copying.CopySizes.{CopySizes}
 use Rattle.command_line.specs.declared.dead.DeadList.{DeadList}
 use Rattle.command_line.specs.declared.end.End.TheVariants.{Done, Damaged, Refused}
 use Rattle.command_line.specs.declared.engine.Setting.{Setting}
@@ -45,6 +49,17 @@ pub record PrintsCreation {D : Type 0} (d : DeviceGhosts D) (limits : Limits) (o
   pub refused : (fault : Fault) → creation.end ≡ Ok (Refused fault)
       → ((fault ≡ BadLimits) × (AreLimits (made limits) → ⊥)) ⊎ (fault ≡ Io)
   pub silent : (fault : Fault) → creation.end ≡ Ok (Refused fault) → Keeps old new
+
+-- A copy of these sizes is done with the number of its entries printed. It has those of the index in the
+-- file, if that file held an index whose pages are a B-link tree. If it is refused nothing is printed.
+pub record PrintsCopy {D N : Type 0} (d : DeviceGhosts D) (e : DeviceGhosts N) (g : Ghosts (Store D d)) (bytes : ℕ → List ℕ) (sizes : CopySizes)
+    (old new : Option (List ℕ)) (copy : Copied D N (Store D d)) : Type 0 where
+  pub ends : IfOk copy.end IsDoneOrRefused
+  pub copied : IfSome copy.copied (λ copied. IsSomeAnd copy.from (IsCopyFromFile d e g bytes sizes copied))
+  pub done : copy.end ≡ Ok Done → IsSomeAnd copy.copied (PrintsCount old new)
+  pub refused : (fault : Fault) → copy.end ≡ Ok (Refused fault) → IfNone copy.from (IsOpeningRefused d IsTreeFor bytes 64 fault copy.device)
+  pub cause : (fault : Fault) → copy.end ≡ Ok (Refused fault) → IfSome copy.copied (IsToldCopy fault)
+  pub silent : (fault : Fault) → copy.end ≡ Ok (Refused fault) → Keeps old new
 
 -- A check, with parents and children or without, is done with the report printed of the pages of the index
 -- that was opened, and finds damage with the first of it printed; if it is refused nothing is printed.
@@ -104,6 +119,7 @@ pub record IsNoCommand (name : Text) : Type 0 where
   pub play : name ≢ codes "play"
   pub run : name ≢ codes "run"
   pub create : name ≢ codes "create"
+  pub copy : name ≢ codes "copy"
   pub check : name ≢ codes "check"
   pub dump : name ≢ codes "dump"
 
@@ -119,6 +135,15 @@ pub record DoesCreate {D : Type 0} (d : DeviceGhosts D) (named : Named) (old new
   pub names : named ≡ Some (codes "create", words)
   pub said : HasLimits (said_in words) limits
   pub prints : PrintsCreation d limits old new created
+
+-- ... `copy`, with the sizes that it says
+pub record DoesCopy {D N : Type 0} (d : DeviceGhosts D) (e : DeviceGhosts N) (g : Ghosts (Store D d)) (bytes : ℕ → List ℕ) (named : Named)
+    (old new : Option (List ℕ)) (copy : Copied D N (Store D d)) : Type 0 where
+  pub words : List Row
+  pub sizes : CopySizes
+  pub names : named ≡ Some (codes "copy", words)
+  pub said : HasSizes (said_in words) sizes
+  pub prints : PrintsCopy d e g bytes sizes old new copy
 
 -- a check, with parents and children if this text says so
 pub record ChecksAs {D : Type 0} (d : DeviceGhosts D) (g : Ghosts (Store D d)) (bytes : ℕ → List ℕ) (said : Option (List ℕ))
@@ -167,6 +192,7 @@ DoesCommand d e g rows bytes named old new (left.Nothing end) = ⊤
 DoesCommand d e g rows bytes named old new (left.Played script) = DoesPlay named old new script
 DoesCommand d e g rows bytes named old new (left.Ran ran) = DoesRun d g rows bytes named old new ran
 DoesCommand d e g rows bytes named old new (left.Created created) = DoesCreate e named old new created
+DoesCommand d e g rows bytes named old new (left.Copied copy) = DoesCopy d e g bytes named old new copy
 DoesCommand d e g rows bytes named old new (left.Checked looked) = DoesCheck d g bytes named old new looked
 DoesCommand d e g rows bytes named old new (left.Dumped looked) = DoesDump d g bytes named old new looked
 

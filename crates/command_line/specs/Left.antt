@@ -3,7 +3,7 @@ use Rattle.std.specs.Prelude.{Result, ⊤}
 use Rattle.std.specs.declared.io.Error.{Error}
 use Rattle.command_line.specs.declared.end.End.{End}
 use Rattle.command_line.specs.declared.left.Left.{Left}
-use Rattle.command_line.specs.declared.left.Left.TheVariants.{Nothing, Played, Ran, Created, Checked, Dumped}
+use Rattle.command_line.specs.declared.left.Left.TheVariants.{Nothing, Played, Ran, Created, Copied, Checked, Dumped}
 
 module _ {D N S : Type 0} where
   -- how the command ended
@@ -12,6 +12,7 @@ module _ {D N S : Type 0} where
   end_of (Played script) = script.end
   end_of (Ran ran) = ran.end
   end_of (Created created) = created.end
+  end_of (Copied copied) = copied.end
   end_of (Checked looked) = looked.end
   end_of (Dumped looked) = looked.end
 

@@ -8,6 +8,7 @@ pub mod Settings
 pub mod Files
 pub mod RunningFiles
 pub mod RunRefusals
+pub mod Copying
 pub mod Reporting
 pub mod Listing
 pub mod Ends

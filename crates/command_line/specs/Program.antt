@@ -63,6 +63,13 @@ with_needed_sizes app = with_flag (codes "unique") (with_rule (with_rule (with_r
 abbrev pub create_app : App
 create_app = with_needed_sizes (with_flag (codes "progress") (file_app (codes "create")))
 
+-- the sizes of a copy, which may be left out
+abbrev pub with_copy_sizes : App → App
+with_copy_sizes app = with_flag (codes "unique") (with_rule (with_rule (with_rule app (number_rule (codes "items"))) (number_rule (codes "pages"))) (number_rule (codes "log")))
+
+abbrev pub copy_app : App
+copy_app = with_copy_sizes (with_flag (codes "progress") (with_rule (file_app (codes "copy")) (word_rule (codes "new"))))
+
 abbrev pub check_app : App
 check_app = with_flag (codes "progress") (with_flag (codes "one-thread") (with_flag (codes "parents") (file_app (codes "check"))))
 
@@ -76,7 +83,7 @@ start_app = let app = new_app (codes "btidx") in
 
 -- ... with the commands over an index in a file
 abbrev pub with_file_apps : App → App
-with_file_apps app = with_subcommand (with_subcommand (with_subcommand app create_app.top) check_app.top) dump_app.top
+with_file_apps app = with_subcommand (with_subcommand (with_subcommand (with_subcommand app create_app.top) copy_app.top) check_app.top) dump_app.top
 
 -- the whole command line
 abbrev pub program_line : App

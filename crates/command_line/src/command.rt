@@ -2,11 +2,12 @@
 
 ghost use Rattle.std.specs.Prelude.{◌≡◌, [], false, IfOk, codes, unwrap_or};
 ghost use Rattle.clap.specs.Words.{App, app_of, found_of, first_value, new_app, one_text, rule_of, with_rule, with_subcommand};
-ghost use Rattle.command_line.specs.CommandLine.{HasFlag, HasLimits, HasNumber, HasRunSizes, HasSetting};
-ghost use Rattle.command_line.specs.Program.{MakesApp, check_app, create_app, dump_app, needed_rule, play_app, program_line, run_app, start_app, with_flag, with_index_sizes, with_needed_sizes, with_size, word_rule};
+ghost use Rattle.command_line.specs.CommandLine.{HasFlag, HasLimits, HasNumber, HasNumberIfSaid, HasRunSizes, HasSetting, HasSizes};
+ghost use Rattle.command_line.specs.Program.{MakesApp, check_app, copy_app, create_app, dump_app, needed_rule, play_app, program_line, run_app, start_app, with_flag, with_copy_sizes, with_index_sizes, with_needed_sizes, with_size, number_rule, word_rule};
 
+use crate::copying::{CopySetting, CopySizes};
 use crate::engine::Setting;
-use crate::help::{FAULTS, JOBS, REPORT, SCRIPT};
+use crate::help::{COPIES, FAULTS, JOBS, REPORT, SCRIPT};
 use crate::running::RunSetting;
 use clap::{Arg, ArgAction, ArgMatches, Command, value_parser};
 use index_model::Limits;
@@ -40,6 +41,7 @@ pub fn program<'a>(alloc: Global) -> Result<Command<'a>, AllocError>
     let made = with_command(made, play(alloc));
     let made = with_command(made, run(alloc));
     let made = with_command(made, create(alloc));
+    let made = with_command(made, copy(alloc));
     let made = with_command(made, check(alloc));
     with_command(made, dump(alloc))
 }
@@ -94,6 +96,26 @@ fn with_needed_limits<'a>(alloc: Global, made: Made<'a>) -> Made<'a>
     let made = with_needed_size(alloc, made, "items", ITEMS);
     let made = with_needed_size(alloc, made, "pages", PAGES);
     let made = with_needed_size(alloc, made, "log", LOG);
+    with_flag(alloc, made, "unique", UNIQUE)
+}
+
+fn copy<'a>(alloc: Global) -> Made<'a>
+    ensures { MakesApp result copy_app }
+{
+    let about = "Make an index anew in a new file, with the entries of another";
+    let made = with_file(alloc, explained(alloc, "copy", about, COPIES));
+    let made = with_word(alloc, made, "new", "NEW", "The file of the new index");
+    let made = with_flag(alloc, made, "progress", PROGRESS);
+    with_sizes_if_said(alloc, made)
+}
+
+// The sizes of a copy, and whether it is unique.
+fn with_sizes_if_said<'a>(alloc: Global, made: Made<'a>) -> Made<'a>
+    ensures { (app : App) → MakesApp made.entry app → MakesApp result (with_copy_sizes app) }
+{
+    let made = with_size_if_said(alloc, made, "items", ITEMS);
+    let made = with_size_if_said(alloc, made, "pages", PAGES);
+    let made = with_size_if_said(alloc, made, "log", LOG);
     with_flag(alloc, made, "unique", UNIQUE)
 }
 
@@ -200,6 +222,19 @@ fn with_needed_size<'a>(alloc: Global, made: Made<'a>, name: &'a str, help: &'a 
     with(made, arg)
 }
 
+// `--NAME N`, which may be left out.
+fn with_size_if_said<'a>(alloc: Global, made: Made<'a>, name: &'a str, help: &'a str) -> Made<'a>
+    ensures { (app : App) → MakesApp made.entry app
+        → MakesApp result (with_rule app (number_rule name.entry.now)) }
+{
+    let arg = Arg::new(alloc, name)
+        .long(name)
+        .value_name("N")
+        .value_parser(value_parser!(u32))
+        .help(help);
+    with(made, arg)
+}
+
 // `--NAME N`, which is this if none is given.
 fn with_size<'a>(
     alloc: Global,
@@ -269,7 +304,23 @@ pub fn run_setting<'a>(matches: &ArgMatches<'a>) -> RunSetting<'a>
     }
 }
 
-/// The file of the index on a command line of `create`, `check`, `dump` or `run`.
+/// What a command line of `copy` asks for.
+pub fn copy_setting<'a>(matches: &ArgMatches<'a>) -> CopySetting<'a>
+    ensures { HasSizes (one_text (found_of matches.now)) result.sizes }
+{
+    CopySetting {
+        path: path(matches),
+        new: matches.get_str("new").unwrap_or(""),
+        sizes: CopySizes {
+            items: number_if_said(matches, "items"),
+            pages: number_if_said(matches, "pages"),
+            log_bytes: number_if_said(matches, "log"),
+            unique: matches.get_flag("unique"),
+        },
+    }
+}
+
+/// The file of the index on a command line of `create`, `copy`, `check`, `dump` or `run`.
 pub fn path<'a>(matches: &ArgMatches<'a>) -> &'a str
     ensures { result.now ≡ unwrap_or (first_value (found_of matches.now) (codes "path")) [] }
 {
@@ -283,7 +334,7 @@ pub fn has_parents(matches: &ArgMatches<'_>) -> bool
     matches.get_flag("parents")
 }
 
-/// Whether a command line of `create`, `check` or `run` asks to be told how far it is.
+/// Whether a command line of `create`, `copy`, `check` or `run` asks to be told how far it is.
 pub fn has_progress(matches: &ArgMatches<'_>) -> bool {
     matches.get_flag("progress")
 }
@@ -299,4 +350,10 @@ fn number(matches: &ArgMatches<'_>, name: &str) -> u32
     ensures { HasNumber (one_text (found_of matches.now) name.now) result }
 {
     matches.get_one::<u32>(name).unwrap_or(0)
+}
+
+fn number_if_said(matches: &ArgMatches<'_>, name: &str) -> Option<u32>
+    ensures { HasNumberIfSaid (one_text (found_of matches.now) name.now) result }
+{
+    matches.get_one::<u32>(name)
 }

@@ -101,6 +101,16 @@ L: levels.  P: blocks in use.  E: entries.  H: half-dead pages.  D: deleted ones
 Else the first damage, with status 1:
   damage N block B";
 
+/// What a copy is, and what it prints.
+pub const COPIES: &str =
+    "A size that isn't given is that of the index at PATH; a copy of a unique index is unique too. The leaves of
+the copy are nearly full, some 48 entries a page of 50, so it is the way to room for an index that answers IndexFull.
+The file NEW is there only once the copy is whole. The index at PATH stays, and nobody may have it open meanwhile.
+
+Prints the number of entries:
+  copied N
+With --unique two entries of one key are refused with 21, and the row of one of them.";
+
 /// The lines of a job file, and what is printed of a run.
 pub const JOBS: &str =
     "Lines of a job file:     What they do:                                     Ends:

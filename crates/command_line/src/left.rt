@@ -3,6 +3,7 @@
 ghost use Rattle.std.specs.Prelude.{◌≡◌};
 ghost use Rattle.command_line.specs.Left.{end_of};
 
+use crate::copying::Copied;
 use crate::dead::DeadList;
 use crate::end::End;
 use crate::file_commands::{Created, Looked};
@@ -21,6 +22,7 @@ pub enum Left<'a, D, N, S> {
     Played(RanScript),
     Ran(RanFile<'a, D, S, DeadList>),
     Created(Created<'a, N>),
+    Copied(Copied<'a, D, N, S>),
     Checked(Looked<'a, D, S>),
     Dumped(Looked<'a, D, S>),
 }
@@ -35,6 +37,7 @@ impl<'a, D, N, S> Left<'a, D, N, S> {
             Left::Played(script) => &script.end,
             Left::Ran(ran) => &ran.end,
             Left::Created(created) => &created.end,
+            Left::Copied(copied) => &copied.end,
             Left::Checked(looked) | Left::Dumped(looked) => &looked.end,
         }
     }
@@ -45,6 +48,7 @@ impl<'a, D, N, S> Left<'a, D, N, S> {
             Left::Nothing(_) | Left::Played(_) => None,
             Left::Ran(ran) => ran.said,
             Left::Created(created) => created.said,
+            Left::Copied(copied) => copied.said,
             Left::Checked(looked) | Left::Dumped(looked) => looked.said,
         }
     }

@@ -5,6 +5,7 @@
 
 mod checking;
 mod command;
+mod copying;
 mod dead;
 mod end;
 mod engine;

@@ -18,7 +18,11 @@ struct Screen<'a, E> {
 impl<E: Write> Screen<'_, E> {
     fn show(&mut self, count: u64, all: u64, what: &str) -> io::Result<()> {
         self.is_written = true;
-        write!(self.err, "\r{count} of {all} {what}")
+        if all == 0 {
+            write!(self.err, "\r{count} entries")
+        } else {
+            write!(self.err, "\r{count} of {all} {what}")
+        }
     }
 
     fn end(&mut self) -> io::Result<()> {
@@ -31,7 +35,8 @@ impl<E: Write> Screen<'_, E> {
 }
 
 /// A line on a stream that tells how far long work is, if that is asked for. It is written anew in place. It
-/// is left out if the stream fails, or while another thread writes it.
+/// is left out if the stream fails, or while another thread writes it. Of work whose whole isn't known, 0, it
+/// tells entries.
 #[derive(Drop)]
 pub struct ProgressLine<'a, E> {
     screen: Mutex<Screen<'a, E>>,
@@ -57,7 +62,7 @@ impl<'a, E> ProgressLine<'a, E> {
 
 impl<E: Write> Progress for ProgressLine<'_, E> {
     fn done(&self, count: u64, all: u64) {
-        if !self.is_asked || (count % STEP != 0 && count != all) {
+        if !self.is_asked || (all != 0 && count % STEP != 0 && count != all) {
             return;
         }
         if let Some(mut screen) = self.screen.try_lock() {

@@ -9,8 +9,10 @@ ghost use Rattle.command_line.specs.Left.{end_of, IsRun, IfNotRun};
 ghost use Rattle.command_line.specs.Program.{KeepsLine, named_by};
 
 use crate::command::{
-    has_one_thread, has_parents, has_progress, limits, path, program, run_setting, setting,
+    copy_setting, has_one_thread, has_parents, has_progress, limits, path, program, run_setting,
+    setting,
 };
+use crate::copying::copy;
 use crate::dead::DeadList;
 use crate::end::End;
 use crate::file_commands::{Looked, check, check_one, create, dump};
@@ -275,6 +277,11 @@ fn run<
         Some(("create", matches)) => {
             let line = ProgressLine::new(err, "pages", has_progress(matches));
             Left::Created(create(rt, path(matches), &limits(matches), &line, out))
+        }
+        Some(("copy", matches)) => {
+            let line = ProgressLine::new(err, "pages", has_progress(matches));
+            let asked = copy_setting(matches);
+            Left::Copied(copy::<F, B, _, W>(rt, alloc, &asked, &line, out))
         }
         Some(("check", matches)) => {
             let line = ProgressLine::new(err, "pages", has_progress(matches));

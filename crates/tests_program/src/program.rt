@@ -2,6 +2,7 @@
 
 mod both_forms;
 mod caller;
+mod copies;
 mod damaged;
 mod files;
 mod in_a_file;

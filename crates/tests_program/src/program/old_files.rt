@@ -25,7 +25,7 @@ const PAGES: usize = 69_632;
 
 /// Makes a file with an empty index of the first layout: it differs from one of the second in these bytes
 /// alone.
-fn create_old(
+pub fn create_old(
     rt: &(impl Abort + AllocGlobal + Print + Eprint + Files<File = File> + Threads + Wait + Sync),
     path: &str,
 ) -> Result<(), Fail> {
@@ -66,7 +66,7 @@ fn works(
 }
 
 /// Whether the file says the first layout, and these are the layouts of its pages from block 0 on.
-fn has(rt: &(impl AllocGlobal + Files<File = File>), path: &str, layouts: &[u8]) -> bool {
+pub fn has(rt: &(impl AllocGlobal + Files<File = File>), path: &str, layouts: &[u8]) -> bool {
     match fs::read(rt, path) {
         Ok(bytes) => has_layouts(&bytes, layouts),
         Err(_) => false,

@@ -1,7 +1,7 @@
 use Rattle.std.proofs.Common.{rules, codes}
 use Rattle.clap.specs.Words.{found_of, rows_of}
 use Rattle.command_line.proofs.Kept.{keeps_same, none_then}
-use Rattle.command_line.proofs.Named.{named_rows, none_named, nothing_named, flag_said, limits_said, setting_said, run_said}
+use Rattle.command_line.proofs.Named.{named_rows, none_named, nothing_named, flag_said, limits_said, setting_said, sizes_said, run_said}
 use Rattle.command_line.proofs.streams.run.Goals.{in_default-via-in-Some+in_default, in_default-via-in_default}
 use Rattle.command_line.proofs.streams.run.Goals as goal
 
@@ -63,6 +63,25 @@ returns-in-Some-create-default-clause-printed g c =
       };
     }
 
+pub returns-in-Some-copy-default-clause-printed : goal.returns-in-Some-copy-default-clause-printed
+returns-in-Some-copy-default-clause-printed g c =
+    let arm = c.in-Some-copy-default in record {
+      does = record {
+        words = rows_of (found_of arm.matches.now);
+        sizes = c.copy_setting-asked.result.sizes;
+        names = named_rows _ _ (codes "copy") _ arm.ensures.name arm.is-copy arm.ensures.rows;
+        said = sizes_said (found_of arm.matches.now) _ c.copy_setting-asked.ensures;
+        prints = record {
+          ends = c.copy.ensures.ends;
+          copied = c.copy.ensures.copied;
+          done = c.copy.ensures.done;
+          refused = c.copy.ensures.refused;
+          cause = c.copy.ensures.cause;
+          silent = λ fault is. keeps_same _ _ (c.copy.ensures.silent fault is);
+        };
+      };
+    }
+
 pub returns-in-Some-check-default-clause-printed : goal.returns-in-Some-check-default-clause-printed
 returns-in-Some-check-default-clause-printed g c =
     let arm = c.in-Some-check-default in let checks = c.run_check.ensures in record {
@@ -97,6 +116,6 @@ returns-in-Some-dump-default-clause-printed g c =
 pub returns-in_default-clause-none : goal.returns-in_default-clause-none
 returns-in_default-clause-none g c = elim c.in_default.branch [
   | in_default-via-in-Some+in_default w ↦ none_named _ w.in_default.field-0.0.now (search rules)
-      (record { play = search rules; run = search rules; create = search rules; check = search rules; dump = search rules })
+      (record { play = search rules; run = search rules; create = search rules; copy = search rules; check = search rules; dump = search rules })
   | in_default-via-in_default w ↦ nothing_named _ (search rules)
 ]
