@@ -1,0 +1,9 @@
+use Rattle.std.proofs.Common.{◌≡◌}
+use Rattle.session_seats.specs.Seats.{view_of}
+use Rattle.shared_index.specs.Told.{AreOfLog, all_told}
+use Rattle.shared_index.proofs.close.check_all.Given as goal
+
+abbrev pub invariant-loop-session : goal.invariant-loop-session
+invariant-loop-session g l =
+    (view_of l.desk.keeper ≡ view_of l.initial.desk.keeper)
+    × AreOfLog (view_of l.initial.desk.keeper).log (all_told l.yielded)

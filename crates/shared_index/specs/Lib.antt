@@ -1,0 +1,4 @@
+pub mod Results
+pub mod Serving
+pub mod Sessions
+pub mod Told

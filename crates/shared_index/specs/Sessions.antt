@@ -1,0 +1,50 @@
+-- What a session knows of its calls, and what a call adds to that.
+use Rattle.std.specs.Prelude.{◌≡◌, ℕ, Option, Some, None, List, [], ◌∷◌, ◌++◌}
+use Rattle.std.specs.Option.{ForSome}
+use Rattle.session_calls.specs.declared.answer.Answer.{Answer}
+use Rattle.session_seats.specs.Seats.{view_of}
+use Rattle.session_seats.specs.declared.call.CompletedCall.{CompletedCall}
+use Rattle.session_seats.specs.declared.group.SessionGroup.{Ghosts}
+use Rattle.session_seats.specs.declared.job.Job.{Job}
+use Rattle.session_seats.specs.declared.seat.SessionSeat.{SessionSeat}
+use Rattle.session_seats.specs.declared.seating.SessionView.{SessionView}
+use Rattle.shared_world.specs.Leaving.{RunsItsCall, call_in}
+
+-- the seat is there, and its session runs nothing
+abbrev pub SeatRests : {J : Type 0} {h : Ghosts J} → Option (SessionSeat J h) → Type 0
+SeatRests seat = ForSome seat (λ s. (view_of s.pass).call ≡ None)
+
+-- the number of its session
+abbrev pub number_of_seat : {J : Type 0} {h : Ghosts J} → Option (SessionSeat J h) → ℕ
+number_of_seat None = 0
+number_of_seat (Some s) = s.session
+
+-- the calls that its session has had, with their places in the one log
+abbrev pub calls_had : {J : Type 0} {h : Ghosts J} → Option (SessionSeat J h) → List (ℕ × CompletedCall)
+calls_had None = []
+calls_had (Some s) = (view_of s.pass).calls
+
+-- a session has had one call more, at a place of the one log: it was asked this, and answered so
+pub record HasHadCall (asked : Job) (answer : Answer) (old new : List (ℕ × CompletedCall)) : Type 0 where
+  pub place : ℕ
+  pub call : CompletedCall
+  pub calls_are : new ≡ old ++ (place, call) ∷ []
+  pub asked_is : call.asked ≡ asked
+  pub answer_is : call.answer ≡ answer
+
+-- ... and this was made of its answer
+pub record HasTold {A : Type 0} (asked : Job) (told_by : Answer → A) (told : A) (old new : List (ℕ × CompletedCall)) : Type 0 where
+  pub answer : Answer
+  pub had : HasHadCall asked answer old new
+  pub told_is : told ≡ told_by answer
+
+-- a session runs a call that was asked this
+pub record RunsJob (asked : Job) (v : SessionView) : Type 0 where
+  pub runs : RunsItsCall v
+  pub asked_is : (call_in v).asked ≡ asked
+
+-- What a hold of the lock leaves of a session's call that was asked this: it runs on, or it is over with this
+-- answer.
+abbrev pub HoldLeaves : Job → Option Answer → SessionView → SessionView → Type 0
+HoldLeaves asked None old new = RunsJob asked new × (new.calls ≡ old.calls)
+HoldLeaves asked (Some answer) old new = (new.call ≡ None) × HasHadCall asked answer old.calls new.calls

@@ -1,0 +1,21 @@
+//! An index that threads of a program share for days: sessions that make calls, each at any time.
+#![tactic(auto)]
+
+mod begun;
+mod client;
+mod close;
+mod crew;
+mod hold;
+mod index;
+mod results;
+mod rounds;
+mod seats;
+mod serving;
+mod session;
+
+pub use client::Client;
+pub use close::ServedIndex;
+pub use index::SharedIndex;
+pub use rounds::CommitRounds;
+pub use serving::{NotServed, serve};
+pub use session::SharedSession;

@@ -1,0 +1,42 @@
+//! What calls tell.
+
+ghost use Rattle.std.specs.Prelude.{◌≡◌};
+ghost use Rattle.shared_index.specs.Results.{told_of_insert, told_of_upkeep, told_of_vacuum};
+
+use index_model::{Fault, VacuumStats};
+use session_calls::Answer;
+use whole_calls::Inserted;
+
+/// What an insert tells by its last answer.
+pub fn told_of_insert(answer: Answer) -> Result<Inserted, Fault>
+    ensures { result ≡ told_of_insert answer }
+{
+    match answer {
+        Answer::Added { action, unfinished } => Ok(Inserted { action, unfinished }),
+        Answer::Refused(fault) => Err(fault),
+        _ => Err(Fault::PageDamaged(0)),
+    }
+}
+
+/// What a bulk delete or a cleanup tells by its last answer.
+pub fn told_of_vacuum(answer: Answer) -> Result<VacuumStats, Fault>
+    ensures { result ≡ told_of_vacuum answer }
+{
+    match answer {
+        Answer::Finished(stats) => Ok(stats),
+        Answer::Refused(fault) => Err(fault),
+        _ => Err(Fault::PageDamaged(0)),
+    }
+}
+
+/// What a commit or a checkpoint tells by its answer.
+pub fn told_of_upkeep(answer: Answer) -> Result<u64, Fault>
+    ensures { result ≡ told_of_upkeep answer }
+{
+    match answer {
+        Answer::Forced(count) => Ok(count),
+        Answer::Checkpointed(count) => Ok(count),
+        Answer::Refused(fault) => Err(fault),
+        _ => Err(Fault::PageDamaged(0)),
+    }
+}
