@@ -14,9 +14,9 @@ use schedule::Event;
 use session_calls::Answer;
 use std::alloc::{AllocError, Global};
 use tests_reference::{
-    PlainAction, PlainAsk, PlainCall, PlainEffect, PlainEnding, actions_are_owned, contents_has,
-    is_among, is_bulk_delete_answer, is_insert_answer, is_scan_answer, is_scan_answer_so_far,
-    is_there_after,
+    Interval, PlainAction, PlainAsk, PlainCall, PlainEffect, PlainEnding, actions_are_owned,
+    contents_has, is_among, is_bulk_delete_answer, is_insert_answer, is_scan_answer,
+    is_scan_answer_so_far, is_there_after,
 };
 
 /// Keeps the actions and the calls of a run, and says whether each answer is right.
@@ -521,8 +521,10 @@ impl Judge {
             &self.start,
             &self.history,
             number,
-            call.began,
-            until,
+            Interval {
+                began: call.began,
+                ended: until,
+            },
             entry,
             call.added,
             &call.ending,

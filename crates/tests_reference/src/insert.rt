@@ -135,24 +135,30 @@ fn insert_ends_right(
     }
 }
 
-/// Whether this is the right answer of the insert of this number: `began` and `ended` are the
-/// lengths of the history when it began and when it ended, or now, `added` the number of its Add,
-/// if it has one.
+/// The lengths of a history when a call began, and when it ended, or now.
+#[derive(Clone, Copy)]
+pub struct Interval {
+    pub began: usize,
+    pub ended: usize,
+}
+
+/// Whether this is the right answer of the insert of this number: `added` is the number of its Add, if it has
+/// one.
 pub fn is_insert_answer(
     start: &[Entry],
     history: &[PlainAction],
     number: usize,
-    began: usize,
-    ended: usize,
+    interval: Interval,
     entry: &Entry,
     added: Option<usize>,
     ending: &PlainEnding,
 ) -> bool
-    requires { ended < 2 ^ 63 }
+    requires { interval.ended < 2 ^ 63 }
     ensures { IsTrue result ↔
-        IsInsertAnswer (is_among start.now) (history_of history.now) number began ended
-        entry.now added (ending_of ending.now) }
+        IsInsertAnswer (is_among start.now) (history_of history.now) number interval.began
+        interval.ended entry.now added (ending_of ending.now) }
 {
+    let Interval { began, ended } = interval;
     add_is_right(start, history, number, began, ended, entry, added)
         && insert_ends_right(start, history, began, ended, entry, added, ending)
 }

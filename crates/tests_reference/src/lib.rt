@@ -16,6 +16,6 @@ pub use call::{PlainAsk, PlainCall, PlainEnding};
 pub use contents::{
     contents_has, is_among, is_there_after, is_there_at_some_moment, is_there_throughout,
 };
-pub use insert::{is_added, is_insert_answer};
+pub use insert::{Interval, is_added, is_insert_answer};
 pub use owned::actions_are_owned;
 pub use scan::{is_ascending, is_scan_answer, is_scan_answer_so_far, is_up_to_last};

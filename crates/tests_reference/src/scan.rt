@@ -90,84 +90,75 @@ fn all_may_be_given(
     }
 }
 
-fn is_given_if_owed(
-    start: &[Entry],
-    history: &[PlainAction],
-    range: &Range,
+/// A scan over a history: the entries at the start, the actions, what was asked, and the lengths of the
+/// history when it began and when it ended, or now.
+#[derive(Clone, Copy)]
+struct ScanCase<'a> {
+    start: &'a [Entry],
+    history: &'a [PlainAction],
+    range: &'a Range,
     began: usize,
-    now: usize,
-    whole: bool,
-    given: &[Entry],
-    entry: &Entry,
-) -> bool
-    requires { now < 2 ^ 63 }
+    ended: usize,
+}
+
+fn is_given_if_owed(case: &ScanCase<'_>, whole: bool, given: &[Entry], entry: &Entry) -> bool
+    requires { case.now.ended < 2 ^ 63 }
     ensures { IsTrue result ↔
-        IsGivenIfOwed (spec_is_among start.now) (history_of history.now) range.now began now
-        given.now (Reach whole given.now) entry.now }
+        IsGivenIfOwed (spec_is_among case.now.start.now) (history_of case.now.history.now) case.now.range.now
+        case.now.began case.now.ended given.now (Reach whole given.now) entry.now }
 {
     if !whole && !is_up_to_last(given, entry) {
         return true;
     }
-    if !range.contains(entry) {
+    if !case.range.contains(entry) {
         return true;
     }
-    if !is_there_throughout(start, history, began, now, entry) {
+    if !is_there_throughout(case.start, case.history, case.began, case.ended, entry) {
         return true;
     }
     is_among(given, entry)
 }
 
 fn all_given_if_owed(
-    start: &[Entry],
-    history: &[PlainAction],
-    range: &Range,
-    began: usize,
-    now: usize,
+    case: &ScanCase<'_>,
     whole: bool,
     given: &[Entry],
     candidates: &[Entry],
 ) -> bool
-    requires { now < 2 ^ 63 }
+    requires { case.now.ended < 2 ^ 63 }
     ensures { IsTrue result ↔
-        AllByRecursion (IsGivenIfOwed (spec_is_among start.now) (history_of history.now)
-        range.now began now given.now (Reach whole given.now)) candidates.now }
+        AllByRecursion (IsGivenIfOwed (spec_is_among case.now.start.now) (history_of case.now.history.now)
+        case.now.range.now case.now.began case.now.ended given.now (Reach whole given.now)) candidates.now }
 {
     match candidates {
         [] => true,
         [first, rest @ ..] => {
-            is_given_if_owed(start, history, range, began, now, whole, given, first)
-                && all_given_if_owed(start, history, range, began, now, whole, given, rest)
+            is_given_if_owed(case, whole, given, first)
+                && all_given_if_owed(case, whole, given, rest)
         }
     }
 }
 
 fn all_added_given_if_owed(
-    start: &[Entry],
-    history: &[PlainAction],
-    range: &Range,
-    began: usize,
-    now: usize,
+    case: &ScanCase<'_>,
     whole: bool,
     given: &[Entry],
     actions: &[PlainAction],
 ) -> bool
-    requires { now < 2 ^ 63 }
+    requires { case.now.ended < 2 ^ 63 }
     ensures { IsTrue result ↔
-        AllByRecursion (IsGivenIfOwed (spec_is_among start.now) (history_of history.now)
-        range.now began now given.now (Reach whole given.now)) (added_by (history_of
+        AllByRecursion (IsGivenIfOwed (spec_is_among case.now.start.now) (history_of case.now.history.now)
+        case.now.range.now case.now.began case.now.ended given.now (Reach whole given.now)) (added_by (history_of
         actions.now)) }
 {
     match actions {
         [] => true,
         [first, rest @ ..] => {
             let is_fine = match &first.effect {
-                PlainEffect::Adds(entry) => {
-                    is_given_if_owed(start, history, range, began, now, whole, given, entry)
-                }
+                PlainEffect::Adds(entry) => { is_given_if_owed(case, whole, given, entry) }
                 _ => true,
             };
-            is_fine
-                && all_added_given_if_owed(start, history, range, began, now, whole, given, rest)
+            is_fine && all_added_given_if_owed(case, whole, given, rest)
         }
     }
 }
@@ -190,23 +181,15 @@ fn gives_only(
 }
 
 #[tactic(auto, using(crate::proofs::Candidates::gives_all, crate::proofs::Candidates::owed_of_all))]
-fn gives_all(
-    start: &[Entry],
-    history: &[PlainAction],
-    range: &Range,
-    began: usize,
-    now: usize,
-    whole: bool,
-    given: &[Entry],
-) -> bool
-    requires interval { began ≤ now }
-    requires short { now < 2 ^ 63 }
+fn gives_all(case: &ScanCase<'_>, whole: bool, given: &[Entry]) -> bool
+    requires interval { case.now.began ≤ case.now.ended }
+    requires short { case.now.ended < 2 ^ 63 }
     ensures { IsTrue result ↔
-        GivesAll (spec_is_among start.now) (history_of history.now) range.now began now
-        given.now (Reach whole given.now) }
+        GivesAll (spec_is_among case.now.start.now) (history_of case.now.history.now) case.now.range.now
+        case.now.began case.now.ended given.now (Reach whole given.now) }
 {
-    all_given_if_owed(start, history, range, began, now, whole, given, start)
-        && all_added_given_if_owed(start, history, range, began, now, whole, given, history)
+    all_given_if_owed(case, whole, given, case.start)
+        && all_added_given_if_owed(case, whole, given, case.history)
 }
 
 /// Whether these are the right answer of a scan that has finished: `began` and `ended` are the
@@ -226,7 +209,17 @@ pub fn is_scan_answer(
         given.now }
 {
     gives_only(start, history, range, began, ended, given)
-        && gives_all(start, history, range, began, ended, true, given)
+        && gives_all(
+            &ScanCase {
+                start,
+                history,
+                range,
+                began,
+                ended,
+            },
+            true,
+            given,
+        )
 }
 
 /// Whether these are a right answer of a scan so far: `now` is the present length of the history.
@@ -245,5 +238,15 @@ pub fn is_scan_answer_so_far(
         now given.now }
 {
     gives_only(start, history, range, began, now, given)
-        && gives_all(start, history, range, began, now, false, given)
+        && gives_all(
+            &ScanCase {
+                start,
+                history,
+                range,
+                began,
+                ended: now,
+            },
+            false,
+            given,
+        )
 }

@@ -65,11 +65,11 @@ R = inner.the_row
 abbrev A : RattleType
 A = heap.the_row
 
-abbrev Row : RattleType
-Row = loose.the_row R A ghosts
+abbrev TypeRow : RattleType
+TypeRow = loose.the_row R A ghosts
 
 abbrev Made : RattleType
-Made = option.the_row Row
+Made = option.the_row TypeRow
 
 -- `v` lies at `p`, and its block may be freed
 abbrev At : A.Denot → Ptr → R.Denot → Fml
@@ -84,8 +84,8 @@ al = record { row = A; laws = heap_laws.the_row_laws; g = ghosts; d = impl [] tn
 
 -- what `made` answered, by cases
 module _ {M : Type 1} {𝓤 : Ura M} {𝓛 : Logic 𝓤} {K : Type 0} {Γ : List (Item 𝓤)} {G : Goal 𝓤 𝓛.H} where
-  cases : K → (r : Made.Denot) (v : Val) (P Q : Row.Denot → Type 0) → IfSome r P → IfSome r Q
-      → ((l : Row.Denot) (b o : ℕ) (h : Val) → P l → Q l → v ≡ some_val b o h → Good (lone A.mir) h → Seq K 𝓛 (‵ (At l.alloc (block_ptr b o) l.value) ∷ Γ) G)
+  cases : K → (r : Made.Denot) (v : Val) (P Q : TypeRow.Denot → Type 0) → IfSome r P → IfSome r Q
+      → ((l : TypeRow.Denot) (b o : ℕ) (h : Val) → P l → Q l → v ≡ some_val b o h → Good (lone A.mir) h → Seq K 𝓛 (‵ (At l.alloc (block_ptr b o) l.value) ∷ Γ) G)
       → (v ≡ live 0 vnil → Seq K 𝓛 Γ G) → Seq K 𝓛 (‵ (Made.own_val r (v ∷ [])) ∷ Γ) G
   cases t (Some l) v P Q p q made refused =
       fpick t (λ us. fsplit t $ feq_l t (λ e. fpick t (λ vss. fsplit t $ feq_l t (λ f. fsplit t $ move t (1 ∷ []) $ drop t $
