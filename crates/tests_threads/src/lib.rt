@@ -21,3 +21,5 @@ mod lists;
 mod plain;
 #[cfg(test)]
 mod runs;
+#[cfg(test)]
+mod shared;
