@@ -71,11 +71,12 @@ module _ {D N : Type 0} (d : DeviceGhosts D) (e : DeviceGhosts N) (g : Ghosts (S
       follows = follows;
       whole = λ honest_new honest format pages has tree.
           let begun = begins (honest_first honest) format pages has tree in
-          let same : made limits ≡ made (limits_of_copy sizes (sizes_of format)) = ap made (sizes_are ∙ ap (λ (f : Format). limits_of_copy sizes (sizes_of f)) begun.limits_are) in
-          (subst AreLimits same allowed,
-          subst (λ (f : Format). IsCopyOf e f (entry_on_live_leaf pages) copy.count copy.device) same
-          (copy_same (has_entry g first.store) (entry_on_live_leaf pages) (λ x. begun.fits.explains.contents x) e (made limits) copy.count copy.device
-          (holds honest_new honest (entry_on_live_leaf pages) [] [] begun.fits)));
+          let same : made limits ≡ made (limits_of_copy sizes (sizes_of format)) = ap made (sizes_are ∙ ap (λ (f : Format). limits_of_copy sizes (sizes_of f)) begun.limits_are) in (
+            subst AreLimits same allowed,
+            subst (λ (f : Format). IsCopyOf e f (entry_on_live_leaf pages) copy.count copy.device) same
+                (copy_same (has_entry g first.store) (entry_on_live_leaf pages) (λ x. begun.fits.explains.contents x) e (made limits) copy.count copy.device
+                (holds honest_new honest (entry_on_live_leaf pages) [] [] begun.fits)),
+          );
       refused = tt;
     }
     copy_from_file (Err not_copied) allowed holds refused = record {

@@ -19,7 +19,8 @@ impl<E: Write> Screen<'_, E> {
     fn show(&mut self, count: u64, all: u64, what: &str) -> io::Result<()> {
         self.is_written = true;
         if all == 0 {
-            write!(self.err, "\r{count} entries")
+            // The spaces cover what was told of the pages.
+            write!(self.err, "\r{count} entries copied   ")
         } else {
             write!(self.err, "\r{count} of {all} {what}")
         }
