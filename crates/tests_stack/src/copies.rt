@@ -59,6 +59,17 @@ fn number(not_copied: NotCopied) -> u64 {
     }
 }
 
+// Copies an index into another one: how many entries were copied, or why not.
+fn copy_all<S: PageStore, T: PageStore>(
+    from: &mut Index<S>,
+    into: &mut Index<T>,
+) -> Result<u64, u64> {
+    match copy(from, into, &NoProgress, 60) {
+        Ok(count) => Ok(count),
+        Err(not_copied) => Err(number(not_copied)),
+    }
+}
+
 // Copies an index of so many entries and one more into an empty one of these limits, and answers what that
 // came to, and whether both give the same.
 fn copied(
@@ -73,7 +84,7 @@ fn copied(
         insert(&mut from, more)?;
     }
     let mut into = index_over(alloc, pages(alloc, limits_of_copy)?)?;
-    let came = copy(&mut from, &mut into, &NoProgress, u64::from(entries)).map_err(number);
+    let came = copy_all(&mut from, &mut into);
     Ok((came, give_alike(&mut from, &mut into)?))
 }
 
@@ -107,7 +118,7 @@ fn pages_used(alloc: Global) -> Result<(u32, u32), Fault> {
         insert(&mut from, of(key))?;
     }
     let mut into = index_over(alloc, pages(alloc, WIDE)?)?;
-    let _came = copy(&mut from, &mut into, &NoProgress, 250);
+    let _came = copy_all(&mut from, &mut into);
     Ok((from.info().pages_used, into.info().pages_used))
 }
 
