@@ -308,6 +308,7 @@ pub fn run_setting<'a>(matches: &ArgMatches<'a>) -> RunSetting<'a>
 pub fn copy_setting<'a>(matches: &ArgMatches<'a>) -> CopySetting<'a>
     ensures { HasSizes (one_text (found_of matches.now)) result.sizes }
 {
+    let is_unique = matches.get_flag("unique");
     CopySetting {
         path: path(matches),
         new: matches.get_str("new").unwrap_or(""),
@@ -315,7 +316,7 @@ pub fn copy_setting<'a>(matches: &ArgMatches<'a>) -> CopySetting<'a>
             items: number_if_said(matches, "items"),
             pages: number_if_said(matches, "pages"),
             log_bytes: number_if_said(matches, "log"),
-            unique: matches.get_flag("unique"),
+            unique: is_unique,
         },
     }
 }
