@@ -14,11 +14,11 @@ use std::thread::Threads;
 const KEYS: [u8; 12] = [1, 2, 3, 4, 5, 6, 7, 8, 9, 10, 11, 12];
 
 /// A copy of these sizes prints this, and ends with this status.
-fn copies(
+fn copies<'x>(
     rt: &(impl Abort + AllocGlobal + Print + Eprint + Files<File = File> + Threads + Wait + Sync),
-    path: &str,
-    new: &str,
-    sizes: &[&str],
+    path: &'x str,
+    new: &'x str,
+    sizes: &[&'x str],
     printed: &str,
     said: &str,
 ) -> Result<(), Fail> {
@@ -38,10 +38,10 @@ fn is_free(rt: &(impl Abort + Eprint + Files<File = File>), path: &str) -> Resul
 }
 
 /// A copy is refused, and says this: neither it nor its draft is there.
-fn is_not_copied(
+fn is_not_copied<'x>(
     rt: &(impl Abort + AllocGlobal + Print + Eprint + Files<File = File> + Threads + Wait + Sync),
-    path: &str,
-    sizes: &[&str],
+    path: &'x str,
+    sizes: &[&'x str],
     said: &str,
 ) -> Result<(), Fail> {
     copies(rt, path, "btidx_no_copy.idx", sizes, "", said)?;
