@@ -65,8 +65,8 @@ impl<J: SessionGroup> SharedSession<J> {
         answer
     }
 
-    /// Inserts the entry, and answers by which action. A page that another session holds is waited for. After
-    /// a fault that is refused the entry isn't there.
+    /// Inserts the entry, and answers by which action. A page that another session holds is waited for.
+    /// Refused as `access_method::Index::aminsert` is, but for `Blocked` (4): no entry is added then.
     pub fn insert<S: PageStore, T: DeadRows + Drop, R: Wait>(
         &mut self,
         rt: &R,
@@ -118,6 +118,7 @@ impl<J: SessionGroup> SharedSession<J> {
 
     /// Makes all actions durable, and answers how many there were. Waits before for those that committed with
     /// it last, as long as that took, and after for those that commit with it: so commits share a force.
+    /// Refused with `Io` (2) and `Stopped` (3).
     pub fn commit<S: PageStore, T: DeadRows + Drop, R: Wait + Clock>(
         &mut self,
         rt: &R,
@@ -136,7 +137,7 @@ impl<J: SessionGroup> SharedSession<J> {
     }
 
     /// Makes all actions durable, writes every changed page to its place, and answers how many actions there
-    /// were.
+    /// were. Refused with `Io` (2) and `Stopped` (3).
     pub fn checkpoint<S: PageStore, T: DeadRows + Drop, R: Wait>(
         &mut self,
         rt: &R,
