@@ -158,11 +158,11 @@ Counts Flushes = ⊥
 Counts Checkpoints = Unit {0}
 
 -- what was done for the store was told by a number, or refused
-data IsCounted (upkeep : Upkeep) : Answer → Type 0 where
-  number : {answer : Answer} (n : ℕ) → kept_answer upkeep n ≡ Some answer → counted answer ≡ Ok n → IsCounted upkeep answer
-  refusal : (fault : Fault) → IsCounted upkeep (Refused fault)
+data IsToldByNumber (upkeep : Upkeep) : Answer → Type 0 where
+  number : {answer : Answer} (n : ℕ) → kept_answer upkeep n ≡ Some answer → counted answer ≡ Ok n → IsToldByNumber upkeep answer
+  refusal : (fault : Fault) → IsToldByNumber upkeep (Refused fault)
 
-is_counted : (upkeep : Upkeep) (answer : Answer) → Counts upkeep → AnswersUpkeep upkeep answer → IsCounted upkeep answer
+is_counted : (upkeep : Upkeep) (answer : Answer) → Counts upkeep → AnswersUpkeep upkeep answer → IsToldByNumber upkeep answer
 is_counted Flushes answer counts kind = absurd counts
 is_counted Forces Begun counts kind = absurd kind
 is_counted Forces Going counts kind = absurd kind
@@ -190,13 +190,13 @@ is_counted Checkpoints (Checkpointed n) counts kind = number n refl refl
 is_counted Checkpoints (Refused f) counts kind = refusal f
 
 -- what was told was answered
-came_of : (upkeep : Upkeep) (answer : Answer) → IsCounted upkeep answer → upkeep_outcome upkeep (counted answer) ≡ Some answer
+came_of : (upkeep : Upkeep) (answer : Answer) → IsToldByNumber upkeep answer → upkeep_outcome upkeep (counted answer) ≡ Some answer
 came_of upkeep answer (number n is told) = ap (λ (r : Result ℕ Fault). upkeep_outcome upkeep r) told ∙ is
 came_of upkeep answer (refusal fault) = refl
 
 -- it is a run of one event, of which nothing is told
 goes_kept : {S : Type 0} (g : Ghosts S) (laws : Laws g) (upkeep : Upkeep) (event : Event) (answer : Answer) (a b : StoreAndSlots S)
-    → kind_of event ≡ MaintainsStore upkeep → IsCounted upkeep answer
+    → kind_of event ≡ MaintainsStore upkeep → IsToldByNumber upkeep answer
     → ForEachHistory g a b (Runs g a b (event ∷ []) (answer ∷ [])) → CallIsRun g 0 IsSameHistory (upkeep_outcome upkeep (counted answer)) a b
 goes_kept {S} g laws upkeep event answer a b kind answers runs = subst (λ (came : Option Answer). CallIsRun g 0 IsSameHistory came a b) (sym (came_of upkeep answer answers))
     (goes_by g laws 0 IsSameHistory event answer a b (subst (λ (k : Kind). IsOfSession 0 k) (sym kind) tt) runs
@@ -206,15 +206,15 @@ goes_kept {S} g laws upkeep event answer a b kind answers runs = subst (λ (came
 -- was refused
 module _ {S : Type 0} (g : Ghosts S) (upkeep : Upkeep) (answer : Answer) (old new : S) (result : Result ℕ Fault) (is : result ≡ counted answer)
     (counts : Counts upkeep) (kind : AnswersUpkeep upkeep answer) (kept : StoreIsKept g upkeep answer old new) where
-  number_of : (r : Result ℕ Fault) (a : Answer) → r ≡ counted a → a ≡ answer → IsCounted upkeep a → IfOk r (λ n. n ≡ (g.state old).acts)
+  number_of : (r : Result ℕ Fault) (a : Answer) → r ≡ counted a → a ≡ answer → IsToldByNumber upkeep a → IfOk r (λ n. n ≡ (g.state old).acts)
   number_of r a told same (number n was ok) = subst (λ (x : Result ℕ Fault). IfOk x (λ m. m ≡ (g.state old).acts)) (sym (told ∙ ok)) (kept.number n (was ∙ ap Some same))
   number_of r a told same (refusal fault) = subst (λ (x : Result ℕ Fault). IfOk x (λ m. m ≡ (g.state old).acts)) (sym told) tt
 
-  durable_of : (r : Result ℕ Fault) (a : Answer) → r ≡ counted a → a ≡ answer → IsCounted upkeep a → OnOk r ((g.backing new).durable ≡ (g.state old).acts)
+  durable_of : (r : Result ℕ Fault) (a : Answer) → r ≡ counted a → a ≡ answer → IsToldByNumber upkeep a → OnOk r ((g.backing new).durable ≡ (g.state old).acts)
   durable_of r a told same (number n was ok) = subst (λ (x : Result ℕ Fault). OnOk x ((g.backing new).durable ≡ (g.state old).acts)) (sym (told ∙ ok)) (kept.durable n (was ∙ ap Some same))
   durable_of r a told same (refusal fault) = subst (λ (x : Result ℕ Fault). OnOk x ((g.backing new).durable ≡ (g.state old).acts)) (sym told) tt
 
-  cause_of : (r : Result ℕ Fault) (a : Answer) → r ≡ counted a → a ≡ answer → IsCounted upkeep a
+  cause_of : (r : Result ℕ Fault) (a : Answer) → r ≡ counted a → a ≡ answer → IsToldByNumber upkeep a
       → IfErr r (HasCause (causes_of_forced (g.backing old) (g.backing new)))
   cause_of r a told same (number n was ok) = subst (λ (x : Result ℕ Fault). IfErr x (HasCause (causes_of_forced (g.backing old) (g.backing new)))) (sym (told ∙ ok)) tt
   cause_of r a told same (refusal fault) = subst (λ (x : Result ℕ Fault). IfErr x (HasCause (causes_of_forced (g.backing old) (g.backing new)))) (sym told) (kept.caused fault (sym same))
@@ -233,7 +233,7 @@ pub room_told : (Room : Type 0) (answer : Answer) (result : Result ℕ Fault) �
     → ((count : ℕ) → answer ≡ Checkpointed count → Room) → OnOk result Room
 room_told Room answer result is kind h = subst (λ (r : Result ℕ Fault). OnOk r Room) (sym is) (of answer (is_counted Checkpoints answer tt kind) h)
   where
-    of : (a : Answer) → IsCounted Checkpoints a → ((count : ℕ) → a ≡ Checkpointed count → Room) → OnOk (counted a) Room
+    of : (a : Answer) → IsToldByNumber Checkpoints a → ((count : ℕ) → a ≡ Checkpointed count → Room) → OnOk (counted a) Room
     of a (number n was ok) room = subst (λ (r : Result ℕ Fault). OnOk r Room) (sym ok) (room n (sym (same_some (kept_answer Checkpoints n) (Checkpointed n) a refl was)))
     of a (refusal fault) room = tt
 

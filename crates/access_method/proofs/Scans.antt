@@ -53,7 +53,7 @@ given_history (Err fault) number call old new means = means
 
 -- what an index is between the calls for entries: at rest since before the scan's beginning, and its call has
 -- given these
-record ScanStands {S : Type 0} (g : Ghosts S) (session : ℕ) (range : Range) (first : Index S) (start : Entry → Bool) (history : List Action) (calls : List Call)
+record ScanHasGiven {S : Type 0} (g : Ghosts S) (session : ℕ) (range : Range) (first : Index S) (start : Entry → Bool) (history : List Action) (calls : List Call)
     (given : List Entry) (now : Index S) : Type 0 where
   rests : Rests g first now start history calls
   number : ℕ
@@ -81,7 +81,7 @@ module _ {S : Type 0} (g : Ghosts S) (laws : Laws g)
     honest_first session (e ∷ es) old new (mid, next, rest) honest = honest_before old mid next.steps (honest_first session es mid new rest honest)
 
     stands_begun : (session : ℕ) (range : Range) (old new : Index S) (start : Entry → Bool) (history : List Action) (calls : List Call) → ScanBegins g session range old new
-        → (g.backing new.store).honest ≡ true → IndexFits g old start history calls → ScanStands g session range old start history calls [] new
+        → (g.backing new.store).honest ≡ true → IndexFits g old start history calls → ScanHasGiven g session range old start history calls [] new
     stands_begun session range old new start history calls begins honest fits =
         let run = begins.runs honest start history calls fits in
         let call = begun_call session (AskScan range) (length history) in
@@ -100,7 +100,7 @@ module _ {S : Type 0} (g : Ghosts S) (laws : Laws g)
       where
         -- one more was asked for, whatever it answered
         rests_next : (given : List Entry) (result : Result (Option Entry) Fault) (old new : Index S)
-            → ScanStands g session range first start history calls given old → NextIs g session result old new → (g.backing new.store).honest ≡ true
+            → ScanHasGiven g session range first start history calls given old → NextIs g session result old new → (g.backing new.store).honest ≡ true
             → Rests g first new start history calls
         rests_next given result old new stands next honest =
             let run = next.runs honest start history stands.rests.then_calls stands.rests.fits in
@@ -110,8 +110,8 @@ module _ {S : Type 0} (g : Ghosts S) (laws : Laws g)
             (given_history result stands.number stands.call (snapshot_of (slots_within old) history stands.rests.then_calls) (snapshot_of (slots_within new) run.then_history run.then_calls) means))
 
         stands_next : (given : List Entry) (e : Entry) (old new : Index S)
-            → ScanStands g session range first start history calls given old → NextIs g session (Ok (Some e)) old new → (g.backing new.store).honest ≡ true
-            → ScanStands g session range first start history calls (given ++ e ∷ []) new
+            → ScanHasGiven g session range first start history calls given old → NextIs g session (Ok (Some e)) old new → (g.backing new.store).honest ≡ true
+            → ScanHasGiven g session range first start history calls (given ++ e ∷ []) new
         stands_next given e old new stands next honest =
             let run = next.runs honest start history stands.rests.then_calls stands.rests.fits in
             let means = run.tells stands.number stands.call range stands.is stands.ask in
@@ -136,13 +136,13 @@ module _ {S : Type 0} (g : Ghosts S) (laws : Laws g)
 
         -- after all of these
         stands_after : (before given : List Entry) (old new : Index S)
-            → ScanStands g session range first start history calls before old → NextsAre g session given old new → (g.backing new.store).honest ≡ true
-            → ScanStands g session range first start history calls (before ++ given) new
+            → ScanHasGiven g session range first start history calls before old → NextsAre g session given old new → (g.backing new.store).honest ≡ true
+            → ScanHasGiven g session range first start history calls (before ++ given) new
         stands_after before [] old new stands same honest =
-            subst (λ (x : Index S). ScanStands g session range first start history calls (before ++ []) x) (sym same)
-            (subst (λ (es : List Entry). ScanStands g session range first start history calls es old) (sym (append-nil before)) stands)
+            subst (λ (x : Index S). ScanHasGiven g session range first start history calls (before ++ []) x) (sym same)
+            (subst (λ (es : List Entry). ScanHasGiven g session range first start history calls es old) (sym (append-nil before)) stands)
         stands_after before (e ∷ es) old new stands (mid, next, rest) honest =
-            subst (λ (all : List Entry). ScanStands g session range first start history calls all new) (append_assoc before (e ∷ []) es)
+            subst (λ (all : List Entry). ScanHasGiven g session range first start history calls all new) (append_assoc before (e ∷ []) es)
             (stands_after (before ++ e ∷ []) es mid new
             (stands_next before e old mid stands next (honest_first session es mid new rest honest)) rest honest)
 
@@ -170,7 +170,7 @@ module _ {S : Type 0} (g : Ghosts S) (laws : Laws g)
     -- after a beginning, and all of these
     stands : (session : ℕ) (range : Range) (given : List Entry) (first begun after : Index S) (start : Entry → Bool) (history : List Action) (calls : List Call)
         → ScanBegins g session range first begun → NextsAre g session given begun after → (g.backing after.store).honest ≡ true → IndexFits g first start history calls
-        → ScanStands g session range first start history calls given after
+        → ScanHasGiven g session range first start history calls given after
     stands session range given first begun after start history calls begins nexts honest fits =
         stands_after session range first start history calls [] given begun after
         (stands_begun session range first begun start history calls begins (honest_first session given begun after nexts honest) fits) nexts honest

@@ -45,7 +45,7 @@ get_back [] back k s e = subst (λ (n : ℕ). slice_get back n ≡ Some s) (let 
 get_back (x ∷ xs) back k s e =
     subst (λ (n : ℕ). slice_get (x ∷ xs ++ back) n ≡ Some s) (let q : suc (length xs + k) ≡ suc (length xs) + k = omega arith in q) (get_back xs back k s e)
 
-pub record HasIndex {ix : Index} (stops : List Stop) (depth_of place_of : ℕ → ℕ) (h : Here ix) : Type 0 where
+pub record HasItsStop {ix : Index} (stops : List Stop) (depth_of place_of : ℕ → ℕ) (h : Here ix) : Type 0 where
   pub index : ℕ
   pub stop : Stop
   pub there : slice_get stops index ≡ Some stop
@@ -60,7 +60,7 @@ pub record Indexed (ix : Index) (depth : ℕ) (stops : List Stop) : Type 0 where
   pub upper : (k : ℕ) → k < length stops → depth_of k < depth
   pub on_level : (k : ℕ) (s : Stop) → slice_get stops k ≡ Some s → IsOnLevel ix (depth_of k) s.block
   pub in_order : (j k : ℕ) → j < k → k < length stops → (depth_of j < depth_of k) ⊎ ((depth_of j ≡ depth_of k) × (place_of j < place_of k))
-  pub has : (h : Here ix) → h.depth < depth → HasIndex stops depth_of place_of h
+  pub has : (h : Here ix) → h.depth < depth → HasItsStop stops depth_of place_of h
 
 abbrev pick : Bool → ℕ → ℕ → ℕ
 pick true a b = a
@@ -109,7 +109,7 @@ module _ (ix : Index) (d : ℕ) (front back : List Stop) (old : Indexed ix d fro
         ]
   ]
 
-  has_more : (h : Here ix) → h.depth < suc d → HasIndex (front ++ back) depths places h
+  has_more : (h : Here ix) → h.depth < suc d → HasItsStop (front ++ back) depths places h
   has_more h lt = elim (cases_lt h.depth d) [
     | inl less ↦
         let i = old.has h less in
@@ -118,7 +118,7 @@ module _ (ix : Index) (d : ℕ) (front back : List Stop) (old : Indexed ix d fro
     | inr more ↦ last (let e : h.depth ≡ d = omega arith in e)
   ]
     where
-      last : h.depth ≡ d → HasIndex (front ++ back) depths places h
+      last : h.depth ≡ d → HasItsStop (front ++ back) depths places h
       last same = elim (cases_lt h.place (length back)) [
         | inr ge ↦
             let c = has_before ix d h.place h.block (subst (λ (e : ℕ). (place_at ix e h.place).block ≡ Some h.block) same h.is) (length back) ge in

@@ -31,8 +31,8 @@ pub unique_where : {P : Type 0} (parents keys : Bool) (pages : List Page) → (I
 unique_where parents true pages follows sound seen = follows sound
 unique_where parents false pages follows sound seen = absurd cc
 
-abbrev Answered : Type 0
-Answered = Result Report CheckFault
+abbrev ReportOrFault : Type 0
+ReportOrFault = Result Report CheckFault
 
 -- what is told of the judgement of pages that were read, in the words of the store
 module _ (st : State) (pages : List Page) (keys : Bool) (keys_are : keys ≡ st.limits.unique) (stored : AreStored st.limits 0 pages) where
@@ -45,27 +45,27 @@ module _ (st : State) (pages : List Page) (keys : Bool) (keys_are : keys ≡ st.
   sound_pages : IsTreeFor st.limits pages → IsSoundTree keys pages
   sound_pages tree = record { tree = tree.0; unique = λ seen. (keyed_shows st.limits pages tree.0 stored).1 (tree.1 (sym keys_are ∙ seen)) }
 
-  module _ (same : pages ≡ st.pages) (judged : Result Report Damage) (result : Answered) (ok : IfOk judged (λ report. result ≡ Ok report))
+  module _ (same : pages ≡ st.pages) (judged : Result Report Damage) (result : ReportOrFault) (ok : IfOk judged (λ report. result ≡ Ok report))
       (err : IfErr judged (λ d. result ≡ Err (Damaged d.number d.block))) where
     pub levels_told : OnOk judged (HasLevels pages) → (keys ≡ true → OnOk judged (HasUniqueLevels pages)) → OnOk result (HasLevelsFor st.limits st.pages)
     levels_told levels unique = subst (λ (ps : List Page). OnOk result (HasLevelsFor st.limits ps)) same (by judged ok err levels unique)
       where
         by : (judged : Result Report Damage) → IfOk judged (λ report. result ≡ Ok report) → IfErr judged (λ d. result ≡ Err (Damaged d.number d.block)) → OnOk judged (HasLevels pages)
             → (keys ≡ true → OnOk judged (HasUniqueLevels pages)) → OnOk result (HasLevelsFor st.limits pages)
-        by (Ok report) ok err levels unique = subst (λ (r : Answered). OnOk r (HasLevelsFor st.limits pages)) (sym ok) (levels_pages levels unique)
-        by (Err d) ok err levels unique = subst (λ (r : Answered). OnOk r (HasLevelsFor st.limits pages)) (sym err) tt
+        by (Ok report) ok err levels unique = subst (λ (r : ReportOrFault). OnOk r (HasLevelsFor st.limits pages)) (sym ok) (levels_pages levels unique)
+        by (Err d) ok err levels unique = subst (λ (r : ReportOrFault). OnOk r (HasLevelsFor st.limits pages)) (sym err) tt
 
     pub tree_told : OnOk judged (IsTree pages) → (keys ≡ true → OnOk judged (AreUnique pages)) → OnOk result (IsTreeFor st.limits st.pages)
     tree_told tree unique = subst (λ (ps : List Page). OnOk result (IsTreeFor st.limits ps)) same (by judged ok err tree unique)
       where
         by : (judged : Result Report Damage) → IfOk judged (λ report. result ≡ Ok report) → IfErr judged (λ d. result ≡ Err (Damaged d.number d.block)) → OnOk judged (IsTree pages)
             → (keys ≡ true → OnOk judged (AreUnique pages)) → OnOk result (IsTreeFor st.limits pages)
-        by (Ok report) ok err tree unique = subst (λ (r : Answered). OnOk r (IsTreeFor st.limits pages)) (sym ok) (tree_pages tree unique)
-        by (Err d) ok err tree unique = subst (λ (r : Answered). OnOk r (IsTreeFor st.limits pages)) (sym err) tt
+        by (Ok report) ok err tree unique = subst (λ (r : ReportOrFault). OnOk r (IsTreeFor st.limits pages)) (sym ok) (tree_pages tree unique)
+        by (Err d) ok err tree unique = subst (λ (r : ReportOrFault). OnOk r (IsTreeFor st.limits pages)) (sym err) tt
 
-  pub fault_told : (was now : Backing) → (now.honest ≡ true → pages ≡ st.pages) → (judged : Result Report Damage) (result : Answered) → IfOk judged (λ report. result ≡ Ok report)
+  pub fault_told : (was now : Backing) → (now.honest ≡ true → pages ≡ st.pages) → (judged : Result Report Damage) (result : ReportOrFault) → IfOk judged (λ report. result ≡ Ok report)
       → IfErr judged (λ d. result ≡ Err (Damaged d.number d.block)) → OnErr judged (IsSoundTree keys pages → ⊥) → IfErr result (IsCheckFault st was now (IsTreeFor st.limits st.pages))
-  fault_told was now same (Ok report) result ok err damaged = subst (λ (r : Answered). IfErr r (IsCheckFault st was now (IsTreeFor st.limits st.pages))) (sym ok) tt
+  fault_told was now same (Ok report) result ok err damaged = subst (λ (r : ReportOrFault). IfErr r (IsCheckFault st was now (IsTreeFor st.limits st.pages))) (sym ok) tt
   fault_told was now same (Err d) result ok err damaged =
-      subst (λ (r : Answered). IfErr r (IsCheckFault st was now (IsTreeFor st.limits st.pages))) (sym err)
+      subst (λ (r : ReportOrFault). IfErr r (IsCheckFault st was now (IsTreeFor st.limits st.pages))) (sym err)
       (λ honest tree. damaged (sound_pages (subst (IsTreeFor st.limits) (sym (same honest)) tree)))

@@ -6,7 +6,7 @@ use Rattle.amcheck.proofs.Imports.{IsOnLevel, IsOnChain, IsUnlinked, IsSecond, I
 use Rattle.amcheck.proofs.Imports.{no_link, some_is, bool_so, on_level_so, AreAllStops, IsAt, HaveBlocksOnce, IsStopOf, HasNoStop, IsOff, AreBelow, HasWrongBound, IsSkipped, LacksLink}
 use Rattle.amcheck.proofs.Imports.{IsSkippedStop, LeadsBefore, IsExtra, HasExtra, DownlinksAreNoted, IsWrongAmong, IsNotMet, AreChildrenBelow, IsClearAt, IsFirstChild, IsFirstOfPage, IsFirstAt}
 use Rattle.amcheck.proofs.Imports.{AreMarked, high_at, context_at, stop_blocks, IsStop, IsLeastNumber, StopsAreInUse, Stop}
-use Rattle.amcheck.proofs.AllStops.{HasIndex, Indexed, indexed, stop_moved}
+use Rattle.amcheck.proofs.AllStops.{HasItsStop, Indexed, indexed, stop_moved}
 use Rattle.amcheck.proofs.ItemsNoted.{item_inside}
 use Rattle.amcheck.proofs.Walked.{stop_inside, stop_of}
 
@@ -115,7 +115,7 @@ module _ (pages : List Page) (stops : List Stop) (all : AreAllStops (index_of pa
     ]
   ]
 
-  abbrev index : (h : Here ix) → HasIndex stops idx.depth_of idx.place_of h
+  abbrev index : (h : Here ix) → HasItsStop stops idx.depth_of idx.place_of h
   index h = (let d = h.deep in idx.has h (omega (arith, d)))
 
   abbrev at_of : (h : Here ix) → IsAt stops (index h).index h

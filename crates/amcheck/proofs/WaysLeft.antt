@@ -32,7 +32,7 @@ size ix depth (suc n) = (let r = size ix depth n in omega (arith, r))
 
 -- how far the way was gone: nothing is damaged so far, it goes on, and its pages are marked beside those that
 -- were before
-pub record IsKeptFromReuse (pages : List Page) (depth : ℕ) (before seen : List Bool) (block step : ℕ) : Type 0 where
+pub record IsGoneSoFar (pages : List Page) (depth : ℕ) (before seen : List Bool) (block step : ℕ) : Type 0 where
   pub block_is : block ≡ left_after_steps (index_of pages) depth step
   pub size : length seen ≡ length pages
   pub clear : (m n : ℕ) → m < step → IsOfPath (index_of pages) depth m n → ⊥
@@ -40,7 +40,7 @@ pub record IsKeptFromReuse (pages : List Page) (depth : ℕ) (before seen : List
   pub marked : (m : ℕ) → m < step → get_or seen (left_after_steps (index_of pages) depth m) false ≡ true
   pub from : (b : ℕ) → get_or seen b false ≡ true → (get_or before b false ≡ true) ⊎ IsCome (index_of pages) depth step b
 
-pub begin_way : (pages : List Page) (depth begin : ℕ) (seen : List Bool) → length seen ≡ length pages → begin ≡ start (index_of pages) depth → IsKeptFromReuse pages depth seen seen begin 0
+pub begin_way : (pages : List Page) (depth begin : ℕ) (seen : List Bool) → length seen ≡ length pages → begin ≡ start (index_of pages) depth → IsGoneSoFar pages depth seen seen begin 0
 begin_way pages depth begin seen size is = record {
   block_is = is;
   size = size;
@@ -50,7 +50,7 @@ begin_way pages depth begin seen size is = record {
   from = λ b e. inl e;
 }
 
-module _ (pages : List Page) (depth : ℕ) (before seen : List Bool) (block step : ℕ) (gone : IsKeptFromReuse pages depth before seen block step)
+module _ (pages : List Page) (depth : ℕ) (before seen : List Bool) (block step : ℕ) (gone : IsGoneSoFar pages depth before seen block step)
     (apart : (b : ℕ) → get_or before b false ≡ true → IsOnLevel (index_of pages) depth b → ⊥) where
   abbrev ix : Index
   ix = index_of pages
@@ -127,8 +127,8 @@ module _ (pages : List Page) (depth : ℕ) (before seen : List Bool) (block step
     ]
 
     -- it goes on to the page on the left
-    pub way_goes_on : (left next : ℕ) → (at block).left ≡ Some left → next ≡ suc step → IsKeptFromReuse pages depth before (slice_set seen block true) left next
-    way_goes_on left next is next_is = subst (IsKeptFromReuse pages depth before (slice_set seen block true) left) (sym next_is) (record {
+    pub way_goes_on : (left next : ℕ) → (at block).left ≡ Some left → next ≡ suc step → IsGoneSoFar pages depth before (slice_set seen block true) left next
+    way_goes_on left next is next_is = subst (IsGoneSoFar pages depth before (slice_set seen block true) left) (sym next_is) (record {
       block_is = sym (ap (λ (b : ℕ). or_block (at b).left b) (sym gone.block_is) ∙ ap (λ (o : Option ℕ). or_block o block) is);
       size = length-set seen block true ∙ gone.size;
       clear = clear_to;

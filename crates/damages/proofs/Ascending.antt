@@ -24,20 +24,20 @@ beyond_from a b c p (inl e) = subst (IsBoundBeyond a) (sym e) p
 beyond_from a b c p (inr q) = beyond_trans a b c p q
 
 -- the downlink is one of these
-abbrev pub IsAmong : Downlink → List Downlink → Type 0
-IsAmong d [] = ⊥
-IsAmong d (x ∷ xs) = (d ≡ x) ⊎ IsAmong d xs
+abbrev pub IsDownlinkAmong : Downlink → List Downlink → Type 0
+IsDownlinkAmong d [] = ⊥
+IsDownlinkAmong d (x ∷ xs) = (d ≡ x) ⊎ IsDownlinkAmong d xs
 
-pub among_left : (d : Downlink) (xs ys : List Downlink) → IsAmong d xs → IsAmong d (xs ++ ys)
+pub among_left : (d : Downlink) (xs ys : List Downlink) → IsDownlinkAmong d xs → IsDownlinkAmong d (xs ++ ys)
 among_left d [] ys i = absurd i
 among_left d (x ∷ xs) ys (inl e) = inl e
 among_left d (x ∷ xs) ys (inr i) = inr (among_left d xs ys i)
 
-pub among_right : (d : Downlink) (xs ys : List Downlink) → IsAmong d ys → IsAmong d (xs ++ ys)
+pub among_right : (d : Downlink) (xs ys : List Downlink) → IsDownlinkAmong d ys → IsDownlinkAmong d (xs ++ ys)
 among_right d [] ys i = i
 among_right d (x ∷ xs) ys i = inr (among_right d xs ys i)
 
-pub among_cases : (d : Downlink) (xs ys : List Downlink) → IsAmong d (xs ++ ys) → IsAmong d xs ⊎ IsAmong d ys
+pub among_cases : (d : Downlink) (xs ys : List Downlink) → IsDownlinkAmong d (xs ++ ys) → IsDownlinkAmong d xs ⊎ IsDownlinkAmong d ys
 among_cases d [] ys i = inr i
 among_cases d (x ∷ xs) ys (inl e) = inl (inl e)
 among_cases d (x ∷ xs) ys (inr i) = elim (among_cases d xs ys i) [ inl l ↦ inl (inr l) | inr r ↦ inr r ]
@@ -45,11 +45,11 @@ among_cases d (x ∷ xs) ys (inr i) = elim (among_cases d xs ys i) [ inl l ↦ i
 -- the bounds ascend strictly
 abbrev pub Ascend : List Downlink → Type 0
 Ascend [] = Unit {0}
-Ascend (x ∷ xs) = ((d : Downlink) → IsAmong d xs → IsBoundBeyond x.bound d.bound) × Ascend xs
+Ascend (x ∷ xs) = ((d : Downlink) → IsDownlinkAmong d xs → IsBoundBeyond x.bound d.bound) × Ascend xs
 
 -- two such lists with the same members are the same
-pub same_list : (xs ys : List Downlink) → Ascend xs → Ascend ys → ((d : Downlink) → IsAmong d xs → IsAmong d ys)
-    → ((d : Downlink) → IsAmong d ys → IsAmong d xs) → xs ≡ ys
+pub same_list : (xs ys : List Downlink) → Ascend xs → Ascend ys → ((d : Downlink) → IsDownlinkAmong d xs → IsDownlinkAmong d ys)
+    → ((d : Downlink) → IsDownlinkAmong d ys → IsDownlinkAmong d xs) → xs ≡ ys
 same_list [] [] a b there back = refl
 same_list [] (y ∷ ys) a b there back = absurd (back y (inl refl))
 same_list (x ∷ xs) [] a b there back = absurd (there x (inl refl))
@@ -68,19 +68,19 @@ same_list (x ∷ xs) (y ∷ ys) a b there back =
     never : (d : Downlink) → IsBoundBeyond d.bound d.bound → ⊥
     never d h = beyond_not d.bound d.bound h h
 
-    there_more : (d : Downlink) → IsAmong d xs → IsAmong d ys
+    there_more : (d : Downlink) → IsDownlinkAmong d xs → IsDownlinkAmong d ys
     there_more d i = elim (there d (inr i)) [
       | inl e ↦ absurd (never d (subst (λ (z : Downlink). IsBoundBeyond z.bound d.bound) (first ∙ sym e) (a.0 d i)))
       | inr j ↦ j
     ]
 
-    back_more : (d : Downlink) → IsAmong d ys → IsAmong d xs
+    back_more : (d : Downlink) → IsDownlinkAmong d ys → IsDownlinkAmong d xs
     back_more d i = elim (back d (inr i)) [
       | inl e ↦ absurd (never d (subst (λ (z : Downlink). IsBoundBeyond z.bound d.bound) (sym first ∙ sym e) (b.0 d i)))
       | inr j ↦ j
     ]
 
-ascend_append : (xs ys : List Downlink) → Ascend xs → Ascend ys → ((d e : Downlink) → IsAmong d xs → IsAmong e ys → IsBoundBeyond d.bound e.bound)
+ascend_append : (xs ys : List Downlink) → Ascend xs → Ascend ys → ((d e : Downlink) → IsDownlinkAmong d xs → IsDownlinkAmong e ys → IsBoundBeyond d.bound e.bound)
     → Ascend (xs ++ ys)
 ascend_append [] ys a b h = b
 ascend_append (x ∷ xs) ys a b h = (
@@ -89,7 +89,7 @@ ascend_append (x ∷ xs) ys a b h = (
 )
 
 -- of two such lists after each other, each of the first stands below each of the second
-pub ascend_sides : (xs ys : List Downlink) → Ascend (xs ++ ys) → (d e : Downlink) → IsAmong d xs → IsAmong e ys → IsBoundBeyond d.bound e.bound
+pub ascend_sides : (xs ys : List Downlink) → Ascend (xs ++ ys) → (d e : Downlink) → IsDownlinkAmong d xs → IsDownlinkAmong e ys → IsBoundBeyond d.bound e.bound
 ascend_sides [] ys a d e i j = absurd i
 ascend_sides (x ∷ xs) ys a d e (inl same) j = subst (λ (z : Downlink). IsBoundBeyond z.bound e.bound) (sym same) (a.0 e (among_right e xs ys j))
 ascend_sides (x ∷ xs) ys a d e (inr i) j = ascend_sides xs ys a.1 d e i j
@@ -108,11 +108,11 @@ high_there low None e r = absurd cc
 high_there low (Some h) e r = r
 
 -- the downlinks that a level is to have
-due_more : (at : ℕ → Node) (s : LeftContext) (bs : List ℕ) (d : Downlink) → IsAmong d (due_links at s bs) → is_some (first_or bs None) ≡ true
+due_more : (at : ℕ → Node) (s : LeftContext) (bs : List ℕ) (d : Downlink) → IsDownlinkAmong d (due_links at s bs) → is_some (first_or bs None) ≡ true
 due_more at s [] d i = absurd i
 due_more at s (b ∷ bs) d i = refl
 
-due_one : (state : PageState) (behind : Bool) (low : Option Bound) (b : ℕ) (d : Downlink) → IsAmong d (due_link state behind low b) → d.bound ≡ low
+due_one : (state : PageState) (behind : Bool) (low : Option Bound) (b : ℕ) (d : Downlink) → IsDownlinkAmong d (due_link state behind low b) → d.bound ≡ low
 due_one Live false low b d (inl e) = ap (λ (x : Downlink). x.bound) e
 due_one Live false low b d (inr i) = absurd i
 due_one Live true low b d i = absurd i
@@ -125,7 +125,7 @@ past_low Live level s node c f some from = inr (beyond_from s.low node.high c (h
 past_low HalfDead level s node c f some from = from
 past_low Deleted level s node c f some from = absurd f
 
-pub due_from : (at : ℕ → Node) (level : ℕ) (s : LeftContext) (xs : List ℕ) (d : Downlink) → IsRunOf at level s xs None → IsAmong d (due_links at s xs)
+pub due_from : (at : ℕ → Node) (level : ℕ) (s : LeftContext) (xs : List ℕ) (d : Downlink) → IsRunOf at level s xs None → IsDownlinkAmong d (due_links at s xs)
     → IsFrom s.low d.bound
 due_from at level s [] d run i = absurd i
 due_from at level s (b ∷ bs) d run i = elim (among_cases d (due_link (at b).state s.behind s.low b) (due_links at (past b (at b) s) bs) i) [
@@ -139,7 +139,7 @@ due_ascend at level s (b ∷ bs) run =
     go (at b).state s.behind run.0.fits (λ d i. due_from at level (past b (at b) s) bs d run.1 i) (due_ascend at level (past b (at b) s) bs run.1)
   where
     go : (state : PageState) (behind : Bool) → FitsState state level s (at b)
-        → ((d : Downlink) → IsAmong d (due_links at (past b (at b) s) bs) → IsFrom (low_past state s.low (at b).high) d.bound)
+        → ((d : Downlink) → IsDownlinkAmong d (due_links at (past b (at b) s) bs) → IsFrom (low_past state s.low (at b).high) d.bound)
         → Ascend (due_links at (past b (at b) s) bs) → Ascend (due_link state behind s.low b ++ due_links at (past b (at b) s) bs)
     go Live false f from more = (
       λ d i. beyond_from s.low (at b).high d.bound (high_there s.low (at b).high (run.0.high_is ∙ due_more at (past b (at b) s) bs d i) f.0) (from d i),
@@ -154,7 +154,7 @@ bound_in : (low bound high : Option Bound) → IsBoundWithin low bound high → 
 bound_in low None high w = absurd w
 bound_in low (Some b) high w = w
 
-pub bounds_in : (low : Option Bound) (ds : List Downlink) (high : Option Bound) (d : Downlink) → BoundsWithin low ds high → IsAmong d ds
+pub bounds_in : (low : Option Bound) (ds : List Downlink) (high : Option Bound) (d : Downlink) → BoundsWithin low ds high → IsDownlinkAmong d ds
     → IsBoundBeyond low d.bound × Rises d.bound high
 bounds_in low [] high d w i = absurd i
 bounds_in low (x ∷ xs) high d w (inl e) = subst (λ (z : Downlink). IsBoundBeyond low z.bound × Rises z.bound high) (sym e) (bound_in low x.bound high w.0)
@@ -171,7 +171,7 @@ links_ascend low [] high w = absurd w
 links_ascend low (x ∷ xs) high w = (λ d i. (bounds_in low xs high d w.1 i).0, bounds_ascend low xs high w.1)
 
 links_in : (low : Option Bound) (ds : List Downlink) (high : Option Bound) (d : Downlink) → Rises low high → LinksWithin low ds high
-    → IsAmong d (from_low low ds)
+    → IsDownlinkAmong d (from_low low ds)
     → IsFrom low d.bound × Rises d.bound high
 links_in low [] high d up w i = absurd w
 links_in low (x ∷ xs) high d up w (inl e) = (inl (ap (λ (z : Downlink). z.bound) e), subst (λ (z : Downlink). Rises z.bound high) (sym e) up)
@@ -184,11 +184,11 @@ upper_fits Live level s node f = (refl, f.0, f.1)
 upper_fits HalfDead level s node f = absurd (omega (arith, f.0))
 upper_fits Deleted level s node f = absurd f
 
-down_more : (at : ℕ → Node) (s : LeftContext) (bs : List ℕ) (d : Downlink) → IsAmong d (downlinks at s bs) → is_some (first_or bs None) ≡ true
+down_more : (at : ℕ → Node) (s : LeftContext) (bs : List ℕ) (d : Downlink) → IsDownlinkAmong d (downlinks at s bs) → is_some (first_or bs None) ≡ true
 down_more at s [] d i = absurd i
 down_more at s (b ∷ bs) d i = refl
 
-down_from : (at : ℕ → Node) (level : ℕ) (s : LeftContext) (xs : List ℕ) (d : Downlink) → IsRunOf at (suc level) s xs None → IsAmong d (downlinks at s xs)
+down_from : (at : ℕ → Node) (level : ℕ) (s : LeftContext) (xs : List ℕ) (d : Downlink) → IsRunOf at (suc level) s xs None → IsDownlinkAmong d (downlinks at s xs)
     → IsFrom s.low d.bound
 down_from at level s [] d run i = absurd i
 down_from at level s (b ∷ bs) d run i = elim (among_cases d (from_low s.low (at b).links) (downlinks at (past b (at b) s) bs) i) [

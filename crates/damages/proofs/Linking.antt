@@ -1,21 +1,21 @@
 -- Downlinks of a level by the places of their pages, had and due.
 use Rattle.std.proofs.Common.{◌≡◌, ◌≢◌, ◌⊎◌, ℕ, zero, suc, ◌<◌, inl, inr, Bool, true, false, Some, List, [], ◌∷◌, take, slice_get, refl, sym, ap, subst, ◌∙◌, arith}
-use Rattle.damages.proofs.Ascending.{IsAmong, among_left, among_right, among_cases, Ascend, ascend_front, ascend_back, ascend_sides}
+use Rattle.damages.proofs.Ascending.{IsDownlinkAmong, among_left, among_right, among_cases, Ascend, ascend_front, ascend_back, ascend_sides}
 use Rattle.damages.proofs.Imports.{cases_eq, Downlink, PageState, Live, HalfDead, Deleted, Node, LeftContext, past, context_after, due_link, due_links, from_low, downlinks, IsBoundBeyond}
 use Rattle.damages.proofs.Decided.{no_link, some_is}
 
-pub among_at : (d : Downlink) (xs : List Downlink) (n : ℕ) → slice_get xs n ≡ Some d → IsAmong d xs
+pub among_at : (d : Downlink) (xs : List Downlink) (n : ℕ) → slice_get xs n ≡ Some d → IsDownlinkAmong d xs
 among_at d [] n e = absurd (no_link e)
 among_at d (x ∷ xs) zero e = inl (sym (some_is x d e))
 among_at d (x ∷ xs) (suc n) e = inr (among_at d xs n e)
 
-pub at_among : (d : Downlink) (xs : List Downlink) → IsAmong d xs → (n : ℕ) × (slice_get xs n ≡ Some d)
+pub at_among : (d : Downlink) (xs : List Downlink) → IsDownlinkAmong d xs → (n : ℕ) × (slice_get xs n ≡ Some d)
 at_among d [] i = absurd i
 at_among d (x ∷ xs) (inl e) = (0, ap Some (sym e))
 at_among d (x ∷ xs) (inr i) = (let r = at_among d xs i in (suc r.0, r.1))
 
 -- one of these leads to the child, or none does
-pub leads_or : (child : ℕ) (xs : List Downlink) → ((d : Downlink) × IsAmong d xs × (d.child ≡ child)) ⊎ ((d : Downlink) → IsAmong d xs → d.child ≢ child)
+pub leads_or : (child : ℕ) (xs : List Downlink) → ((d : Downlink) × IsDownlinkAmong d xs × (d.child ≡ child)) ⊎ ((d : Downlink) → IsDownlinkAmong d xs → d.child ≢ child)
 leads_or child [] = inr (λ d i. absurd i)
 leads_or child (x ∷ xs) = elim (cases_eq x.child child) [
   | inl same ↦ inl (x, inl refl, same)
@@ -33,7 +33,7 @@ pub record IsHad (at : ℕ → Node) (s : LeftContext) (xs : List ℕ) (d : Down
   pub item : ℕ
   pub is : slice_get (from_low (context_after at s (take place xs)).low (at block).links) item ≡ Some d
 
-pub had : (at : ℕ → Node) (s : LeftContext) (xs : List ℕ) (d : Downlink) → IsAmong d (downlinks at s xs) → IsHad at s xs d
+pub had : (at : ℕ → Node) (s : LeftContext) (xs : List ℕ) (d : Downlink) → IsDownlinkAmong d (downlinks at s xs) → IsHad at s xs d
 had at s [] d i = absurd i
 had at s (b ∷ bs) d i = elim (among_cases d (from_low s.low (at b).links) (downlinks at (past b (at b) s) bs) i) [
   | inl l ↦ (let r = at_among d (from_low s.low (at b).links) l in record { place = 0; block = b; there = refl; item = r.0; is = r.1 })
@@ -41,28 +41,28 @@ had at s (b ∷ bs) d i = elim (among_cases d (from_low s.low (at b).links) (dow
 ]
 
 pub has : (at : ℕ → Node) (s : LeftContext) (xs : List ℕ) (place block item : ℕ) (d : Downlink) → slice_get xs place ≡ Some block
-    → slice_get (from_low (context_after at s (take place xs)).low (at block).links) item ≡ Some d → IsAmong d (downlinks at s xs)
+    → slice_get (from_low (context_after at s (take place xs)).low (at block).links) item ≡ Some d → IsDownlinkAmong d (downlinks at s xs)
 has at s [] place block item d there is = absurd (no_link there)
 has at s (b ∷ bs) zero block item d there is =
-    among_left d (from_low s.low (at b).links) _ (subst (λ (c : ℕ). IsAmong d (from_low s.low (at c).links)) (sym (some_is b block there)) (among_at d (from_low s.low (at block).links) item is))
+    among_left d (from_low s.low (at b).links) _ (subst (λ (c : ℕ). IsDownlinkAmong d (from_low s.low (at c).links)) (sym (some_is b block there)) (among_at d (from_low s.low (at block).links) item is))
 has at s (b ∷ bs) (suc place) block item d there is = among_right d (from_low s.low (at b).links) _ (has at (past b (at b) s) bs place block item d there is)
 
 -- a downlink that is due: the place of the page that is to have it
-pub record IsDue (at : ℕ → Node) (s : LeftContext) (xs : List ℕ) (d : Downlink) : Type 0 where
+pub record HasDueDownlink (at : ℕ → Node) (s : LeftContext) (xs : List ℕ) (d : Downlink) : Type 0 where
   pub place : ℕ
   pub there : slice_get xs place ≡ Some d.child
   pub bound : d.bound ≡ (context_after at s (take place xs)).low
   pub alive : (at d.child).state ≡ Live
   pub clear : (context_after at s (take place xs)).behind ≡ false
 
-pub due : (at : ℕ → Node) (s : LeftContext) (xs : List ℕ) (d : Downlink) → IsAmong d (due_links at s xs) → IsDue at s xs d
+pub due : (at : ℕ → Node) (s : LeftContext) (xs : List ℕ) (d : Downlink) → IsDownlinkAmong d (due_links at s xs) → HasDueDownlink at s xs d
 due at s [] d i = absurd i
 due at s (b ∷ bs) d i = elim (among_cases d (due_link (at b).state s.behind s.low b) (due_links at (past b (at b) s) bs) i) [
   | inl l ↦ here (at b).state s.behind refl refl l
   | inr r ↦ (let h = due at (past b (at b) s) bs d r in record { place = suc h.place; there = h.there; bound = h.bound; alive = h.alive; clear = h.clear })
 ]
   where
-    here : (state : PageState) (behind : Bool) → (at b).state ≡ state → s.behind ≡ behind → IsAmong d (due_link state behind s.low b) → IsDue at s (b ∷ bs) d
+    here : (state : PageState) (behind : Bool) → (at b).state ≡ state → s.behind ≡ behind → IsDownlinkAmong d (due_link state behind s.low b) → HasDueDownlink at s (b ∷ bs) d
     here Live false is clear (inl e) = record {
       place = 0;
       there = ap (λ (z : Downlink). Some z.child) (sym e);
@@ -77,12 +77,12 @@ due at s (b ∷ bs) d i = elim (among_cases d (due_link (at b).state s.behind s.
 
 pub is_due : (at : ℕ → Node) (s : LeftContext) (xs : List ℕ) (place : ℕ) (d : Downlink) → slice_get xs place ≡ Some d.child
     → d.bound ≡ (context_after at s (take place xs)).low
-    → (at d.child).state ≡ Live → (context_after at s (take place xs)).behind ≡ false → IsAmong d (due_links at s xs)
+    → (at d.child).state ≡ Live → (context_after at s (take place xs)).behind ≡ false → IsDownlinkAmong d (due_links at s xs)
 is_due at s [] place d there bound alive clear = absurd (no_link there)
 is_due at s (b ∷ bs) zero d there bound alive clear =
     among_left d (due_link (at b).state s.behind s.low b) _
-    (subst (λ (state : PageState). IsAmong d (due_link state s.behind s.low b)) (sym (ap (λ (c : ℕ). (at c).state) same ∙ alive))
-    (subst (λ (behind : Bool). IsAmong d (due_link Live behind s.low b)) (sym clear) (inl whole)))
+    (subst (λ (state : PageState). IsDownlinkAmong d (due_link state s.behind s.low b)) (sym (ap (λ (c : ℕ). (at c).state) same ∙ alive))
+    (subst (λ (behind : Bool). IsDownlinkAmong d (due_link Live behind s.low b)) (sym clear) (inl whole)))
   where
     same : b ≡ d.child
     same = some_is b d.child there
@@ -115,7 +115,7 @@ ascend_places at s [] n b m c i j d e a lt there then f g = absurd (no_link ther
 ascend_places at s (x ∷ xs) n b zero c i j d e a lt there then f g = absurd (omega arith)
 ascend_places at s (x ∷ xs) zero b (suc m) c i j d e a lt there then f g =
     ascend_sides (from_low s.low (at x).links) (downlinks at (past x (at x) s) xs) a d e
-    (subst (λ (y : ℕ). IsAmong d (from_low s.low (at y).links)) (sym (some_is x b there)) (among_at d (from_low s.low (at b).links) i f))
+    (subst (λ (y : ℕ). IsDownlinkAmong d (from_low s.low (at y).links)) (sym (some_is x b there)) (among_at d (from_low s.low (at b).links) i f))
     (has at (past x (at x) s) xs m c j e then g)
 ascend_places at s (x ∷ xs) (suc n) b (suc m) c i j d e a lt there then f g =
     ascend_places at (past x (at x) s) xs n b m c i j d e (ascend_back (from_low s.low (at x).links) _ a) (omega arith) there then f g

@@ -1,11 +1,11 @@
 -- Where neither a chain nor parents and children are damaged, each level has the downlinks that the level below is to have.
 use Rattle.std.proofs.Common.{◌≡◌, ◌≢◌, ◌⊎◌, ℕ, suc, ◌+◌, ◌-◌, ◌≤◌, inl, inr, true, false, Some, List, take, slice_get, refl, sym, ap, subst, ◌∙◌, arith}
-use Rattle.damages.proofs.Ascending.{IsAmong, same_list, due_ascend, down_ascend}
+use Rattle.damages.proofs.Ascending.{IsDownlinkAmong, same_list, due_ascend, down_ascend}
 use Rattle.damages.proofs.Imports.{Downlink, Page, PageState, Live, HalfDead, Deleted, Node, nodes_of, LeftContext, context_after, first_context, due_links, from_low, downlinks, FitsState, IsIn, Index}
 use Rattle.damages.proofs.Imports.{index_of, Place, place_at, Here, Item, context, IsOnLevel, IsOnChain, IsUnlinked, IsSound, at_child, at_page, StandAtTheirBlocks, is_in_or}
 use Rattle.damages.proofs.Decided.{bound_so, bool_so, on_level_so}
 use Rattle.damages.proofs.Levels.{chain_at, right_at, place_told, block_at, distinct_at, run_at}
-use Rattle.damages.proofs.Linking.{leads_or, had, has, IsDue, due, is_due}
+use Rattle.damages.proofs.Linking.{leads_or, had, has, HasDueDownlink, due, is_due}
 use Rattle.damages.proofs.Places.{at_from, in_from, one_place}
 
 pub live_so : (state : PageState) (level : ℕ) (s : LeftContext) (n : Node) → FitsState state level s n → state ≢ HalfDead → state ≡ Live
@@ -59,13 +59,13 @@ module _ (pages : List Page) (stand : StandAtTheirBlocks pages) (sound : IsSound
     lower_told = place_told true pages stand sound (suc depth) level deep sum
 
     -- what an item leads to is due
-    item_due : (h : Here ix) (i : Item h) → h.depth ≡ depth → IsAmong i.link (due_links at first_context lower)
+    item_due : (h : Here ix) (i : Item h) → h.depth ≡ depth → IsDownlinkAmong i.link (due_links at first_context lower)
     item_due h i same = by (chain_or i.link.child)
       where
         on_level : IsOnLevel ix (suc h.depth) i.link.child
         on_level = on_level_so ix (suc h.depth) i.link.child (λ fails. sound (at_child h i) 1 (refl, refl, fails))
 
-        on_chain : IsOnChain ix i.link.child → IsAmong i.link (due_links at first_context lower)
+        on_chain : IsOnChain ix i.link.child → IsDownlinkAmong i.link (due_links at first_context lower)
         on_chain on = at_depth on.depth on.place on.deep on.is level_is
           where
             level_is : on.depth ≡ suc depth
@@ -77,10 +77,10 @@ module _ (pages : List Page) (stand : StandAtTheirBlocks pages) (sound : IsSound
                 omega (arith, l, m, same)
 
             at_depth : (d place : ℕ) → d ≤ ix.top → (place_at ix d place).block ≡ Some i.link.child → d ≡ suc depth
-                → IsAmong i.link (due_links at first_context lower)
+                → IsDownlinkAmong i.link (due_links at first_context lower)
             at_depth d place d_deep d_is d_same = at_place (subst (λ (n : ℕ). (place_at ix n place).block ≡ Some i.link.child) d_same d_is)
               where
-                at_place : (place_at ix (suc depth) place).block ≡ Some i.link.child → IsAmong i.link (due_links at first_context lower)
+                at_place : (place_at ix (suc depth) place).block ≡ Some i.link.child → IsDownlinkAmong i.link (due_links at first_context lower)
                 at_place is =
                     let child : Here ix = record { depth = suc depth; place = place; block = i.link.child; deep = deep; is = is } in
                     let right = right_at true pages stand sound (suc depth) level deep sum place i.link.child is in
@@ -92,11 +92,11 @@ module _ (pages : List Page) (stand : StandAtTheirBlocks pages) (sound : IsSound
                     (live_so (at i.link.child).state level (place_at ix (suc depth) place).context (at i.link.child) right.placed.fits (λ dead. linked (inl dead)))
                     (sym (ap (λ (p : Place). p.context.behind) told) ∙ bool_so (context child).behind (λ behind. linked (inr behind)))
 
-        by : IsOnChain ix i.link.child ⊎ (IsOnChain ix i.link.child → ⊥) → IsAmong i.link (due_links at first_context lower)
+        by : IsOnChain ix i.link.child ⊎ (IsOnChain ix i.link.child → ⊥) → IsDownlinkAmong i.link (due_links at first_context lower)
         by (inl on) = on_chain on
         by (inr off) = absurd (sound (at_page h) 9 (refl, inr (inr (refl, i, inl off))))
 
-    had_due : (d : Downlink) → IsAmong d (downlinks at first_context upper) → IsAmong d (due_links at first_context lower)
+    had_due : (d : Downlink) → IsDownlinkAmong d (downlinks at first_context upper) → IsDownlinkAmong d (due_links at first_context lower)
     had_due d among =
         let a = had at first_context upper d among in
         let told = upper_told a.place in
@@ -105,12 +105,12 @@ module _ (pages : List Page) (stand : StandAtTheirBlocks pages) (sound : IsSound
         item_due h i refl
 
     -- an item of a page on this level is one of the level's
-    item_had : (h : Here ix) (i : Item h) → h.depth ≡ depth → IsAmong i.link (downlinks at first_context upper)
+    item_had : (h : Here ix) (i : Item h) → h.depth ≡ depth → IsDownlinkAmong i.link (downlinks at first_context upper)
     item_had h i same = at_depth h.depth h.place h.block h.is i.is same
       where
         at_depth : (d place block : ℕ) → (place_at ix d place).block ≡ Some block
             → slice_get (from_low (place_at ix d place).context.low (at block).links) i.item ≡ Some i.link
-            → d ≡ depth → IsAmong i.link (downlinks at first_context upper)
+            → d ≡ depth → IsDownlinkAmong i.link (downlinks at first_context upper)
         at_depth d place block is found d_same =
             let told = upper_told place in
             has at first_context upper place block i.item i.link
@@ -119,10 +119,10 @@ module _ (pages : List Page) (stand : StandAtTheirBlocks pages) (sound : IsSound
             (subst (λ (n : ℕ). slice_get (from_low (place_at ix n place).context.low (at block).links) i.item ≡ Some i.link) d_same found))
 
     -- what is due is there
-    due_had : (d : Downlink) → IsAmong d (due_links at first_context lower) → IsAmong d (downlinks at first_context upper)
+    due_had : (d : Downlink) → IsDownlinkAmong d (due_links at first_context lower) → IsDownlinkAmong d (downlinks at first_context upper)
     due_had d among = by (leads_or d.child (downlinks at first_context upper))
       where
-        a : IsDue at first_context lower d
+        a : HasDueDownlink at first_context lower d
         a = due at first_context lower d among
 
         is : (place_at ix (suc depth) a.place).block ≡ Some d.child
@@ -138,7 +138,7 @@ module _ (pages : List Page) (stand : StandAtTheirBlocks pages) (sound : IsSound
             differ : false ≡ true → ⊥
             differ e = cc
 
-        alone : ((e : Downlink) → IsAmong e (downlinks at first_context upper) → e.child ≢ d.child) → ⊥
+        alone : ((e : Downlink) → IsDownlinkAmong e (downlinks at first_context upper) → e.child ≢ d.child) → ⊥
         alone none' =
             sound (at_page (record { depth = suc depth; place = a.place; block = d.child; deep = deep; is = is })) 8 (
               refl,
@@ -156,16 +156,16 @@ module _ (pages : List Page) (stand : StandAtTheirBlocks pages) (sound : IsSound
               )),
             )
 
-        same_due : (e : Downlink) → IsAmong e (downlinks at first_context upper) → e.child ≡ d.child → e ≡ d
+        same_due : (e : Downlink) → IsDownlinkAmong e (downlinks at first_context upper) → e.child ≡ d.child → e ≡ d
         same_due e i child =
             let b = due at first_context lower e (had_due e i) in
             let place : b.place ≡ a.place = one_place lower b.place a.place d.child (distinct_at true pages stand sound (suc depth) level deep sum) (b.there ∙ ap Some child) a.there in
             let bound : e.bound ≡ d.bound = b.bound ∙ ap (λ (n : ℕ). (context_after at first_context (take n lower)).low) place ∙ sym a.bound in
             λ j. record { bound = bound j; child = child j }
 
-        by : ((e : Downlink) × IsAmong e (downlinks at first_context upper) × (e.child ≡ d.child)) ⊎ ((e : Downlink) → IsAmong e (downlinks at first_context upper) → e.child ≢ d.child)
-            → IsAmong d (downlinks at first_context upper)
-        by (inl found) = subst (λ (z : Downlink). IsAmong z (downlinks at first_context upper)) (same_due found.0 found.1 found.2) found.1
+        by : ((e : Downlink) × IsDownlinkAmong e (downlinks at first_context upper) × (e.child ≡ d.child)) ⊎ ((e : Downlink) → IsDownlinkAmong e (downlinks at first_context upper) → e.child ≢ d.child)
+            → IsDownlinkAmong d (downlinks at first_context upper)
+        by (inl found) = subst (λ (z : Downlink). IsDownlinkAmong z (downlinks at first_context upper)) (same_due found.0 found.1 found.2) found.1
         by (inr none') = absurd (alone none')
 
     pub parents_are : downlinks at first_context upper ≡ due_links at first_context lower

@@ -4,11 +4,11 @@ use Rattle.damages.proofs.Imports.{Node, LeftContext, past, context_after, first
 use Rattle.damages.proofs.Decided.{no_link, some_is}
 
 -- a block of the list, with its place there
-pub record IsAt (b : ℕ) (xs : List ℕ) : Type 0 where
+pub record HasPlace (b : ℕ) (xs : List ℕ) : Type 0 where
   pub place : ℕ
   pub is : slice_get xs place ≡ Some b
 
-pub at_from : (b : ℕ) (xs : List ℕ) → IsIn b xs → IsAt b xs
+pub at_from : (b : ℕ) (xs : List ℕ) → IsIn b xs → HasPlace b xs
 at_from b [] i = absurd i
 at_from b (x ∷ xs) (inl e) = record { place = 0; is = ap Some (sym e) }
 at_from b (x ∷ xs) (inr i) = (let r = at_from b xs i in record { place = suc r.place; is = r.is })

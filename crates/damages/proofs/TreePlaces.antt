@@ -1,6 +1,6 @@
 -- In a B-link tree a level's places are the pages of its chain.
 use Rattle.std.proofs.Common.{◌≡◌, ℕ, zero, suc, ◌-◌, ◌<◌, ◌≤◌, inl, Some, None, List, [], ◌∷◌, ◌++◌, length, take, slice_get, refl, sym, ap, subst, ◌∙◌, arith}
-use Rattle.damages.proofs.Ascending.{IsAmong, upper_fits}
+use Rattle.damages.proofs.Ascending.{IsDownlinkAmong, upper_fits}
 use Rattle.damages.proofs.Imports.{Downlink, Page, Node, nodes_of, LeftContext, past, context_after, first_context, first_or, LinksWithin, IsPlaced, IsRunOf, IsRootLevel, IsTreeOf, from_low, downlinks}
 use Rattle.damages.proofs.Imports.{Index, index_of, moved_left, first_child, head, start, left_after_steps, Place, place_at, Here, node, context, IsOnLevel, IsBack, few_blocks}
 use Rattle.damages.proofs.Decided.{no_link, some_is}
@@ -24,12 +24,12 @@ first_is (x ∷ xs) b e = e
 
 -- the first child of the leftmost page of a level is due
 first_among : (at : ℕ → Node) (level : ℕ) (xs : List ℕ) (b : ℕ) → IsRunOf at (suc level) first_context xs None → slice_get xs 0 ≡ Some b
-    → (d : Downlink) × IsAmong d (downlinks at first_context xs) × (d.child ≡ first_child (at b).links)
+    → (d : Downlink) × IsDownlinkAmong d (downlinks at first_context xs) × (d.child ≡ first_child (at b).links)
 first_among at level [] b run e = absurd (no_link e)
 first_among at level (x ∷ xs) b run e = by (at x).links (upper_fits (at x).state level first_context (at x) run.0.fits).2 (ap (λ (c : ℕ). first_child (at c).links) (some_is x b e))
   where
     by : (links : List Downlink) → LinksWithin None links (at x).high → first_child links ≡ first_child (at b).links
-        → (d : Downlink) × IsAmong d (from_low None links ++ downlinks at (past x (at x) first_context) xs) × (d.child ≡ first_child (at b).links)
+        → (d : Downlink) × IsDownlinkAmong d (from_low None links ++ downlinks at (past x (at x) first_context) xs) × (d.child ≡ first_child (at b).links)
     by [] w same = absurd w
     by (i ∷ is) w same = (record { bound = None; child = i.child }, inl refl, same)
 
@@ -65,7 +65,7 @@ module _ (pages : List Page) (chain : ℕ → List ℕ) (t : IsTreeOf (nodes_of 
   starts_below depth deep first =
       let d = first_among at (ix.top - suc depth) (chain (suc (ix.top - suc depth))) (head ix depth)
       (t.runs (suc (ix.top - suc depth)) (omega arith)) first in
-      let a = due at first_context (chain (ix.top - suc depth)) d.0 (subst (IsAmong d.0) (t.parents (ix.top - suc depth) (omega arith)) d.1) in
+      let a = due at first_context (chain (ix.top - suc depth)) d.0 (subst (IsDownlinkAmong d.0) (t.parents (ix.top - suc depth) (omega arith)) d.1) in
       record { place = a.place; is = subst (λ (b : ℕ). slice_get (chain (ix.top - suc depth)) a.place ≡ Some b) d.2 a.there }
 
   starts : (depth : ℕ) → depth ≤ ix.top → StartsOn depth

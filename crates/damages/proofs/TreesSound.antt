@@ -1,6 +1,6 @@
 -- In a B-link tree there is no damage.
 use Rattle.std.proofs.Common.{◌≡◌, ◌≢◌, ◌⊎◌, ℕ, zero, suc, ◌-◌, ◌<◌, ◌≤◌, inl, inr, Bool, true, false, Option, Some, List, [], ◌∷◌, length, take, slice_get, get_or, refl, sym, ap, subst, ◌∙◌, arith}
-use Rattle.damages.proofs.Ascending.{IsAmong, Ascend, beyond_not, beyond_trans, bounds_in, down_ascend}
+use Rattle.damages.proofs.Ascending.{IsDownlinkAmong, Ascend, beyond_not, beyond_trans, bounds_in, down_ascend}
 use Rattle.damages.proofs.Decided.{no_link, some_is, bool_so}
 use Rattle.damages.proofs.Fitting.{page_there}
 use Rattle.damages.proofs.Imports.{Contains, cases_lt, bound_of, Bound, Entry, Downlink, Page, PageState, Live, HalfDead, Deleted, AreUnique, Node, node_of, node_from, nodes_of, LeftContext}
@@ -9,7 +9,7 @@ use Rattle.damages.proofs.Imports.{ComesBefore, Place, Here, Item, Site, node, c
 use Rattle.damages.proofs.Imports.{IsDamage, IsSound, on_way, on_chain, at_child, at_page, nowhere, StandAtTheirBlocks, LevelsHaveTree, IsBoundBeyond}
 use Rattle.damages.proofs.Items.{leaf_links, upper_entries}
 use Rattle.damages.proofs.KeysJudged.{unique_at}
-use Rattle.damages.proofs.Linking.{among_at, had, has, IsHad, due, IsDue, is_due, ascend_items, ascend_places}
+use Rattle.damages.proofs.Linking.{among_at, had, has, IsHad, due, HasDueDownlink, is_due, ascend_items, ascend_places}
 use Rattle.damages.proofs.Places.{at_from, one_place}
 use Rattle.damages.proofs.TreePlaces.{place_told, way_on, way_not_back, there, context_is, placed, on_level, on_level_from, same_context}
 use Rattle.damages.proofs.Parents.{live_so}
@@ -170,14 +170,14 @@ module _ (pages : List Page) (stand : StandAtTheirBlocks pages) (chain : ℕ →
     item_at : (i : Item h) → slice_get (from_low (context_after at first_context (take h.place xs)).low (at h.block).links) i.item ≡ Some i.link
     item_at i = subst (λ (s : LeftContext). slice_get (from_low s.low (at h.block).links) i.item ≡ Some i.link) (context_is pages chain t h) i.is
 
-    item_due : (i : Item h) → IsDue at first_context ys i.link
+    item_due : (i : Item h) → HasDueDownlink at first_context ys i.link
     item_due i =
         let lt = below i in
         let upper : ix.top - h.depth ≡ suc (ix.top - suc h.depth) = omega arith in
         let among = has at first_context xs h.place h.block i.item i.link (there pages chain t h) (item_at i) in
         due at first_context ys i.link
-        (subst (IsAmong i.link) (t.parents (ix.top - suc h.depth) (omega arith))
-        (subst (λ (l : ℕ). IsAmong i.link (downlinks at first_context (chain l))) upper among))
+        (subst (IsDownlinkAmong i.link) (t.parents (ix.top - suc h.depth) (omega arith))
+        (subst (λ (l : ℕ). IsDownlinkAmong i.link (downlinks at first_context (chain l))) upper among))
 
     ascending : Item h → Ascend (downlinks at first_context xs)
     ascending i =
@@ -207,8 +207,8 @@ module _ (pages : List Page) (stand : StandAtTheirBlocks pages) (chain : ℕ →
         let among = is_due at first_context xs h.place own
         (there pages chain t h) refl alive (ap (λ (s : LeftContext). s.behind) (sym context_told) ∙ clear) in
         had_none (had at first_context (chain (ix.top - (h.depth - 1))) own
-        (subst (λ (l : ℕ). IsAmong own (downlinks at first_context (chain l))) upper
-        (subst (IsAmong own) (sym (t.parents (ix.top - h.depth) (omega arith))) among)))
+        (subst (λ (l : ℕ). IsDownlinkAmong own (downlinks at first_context (chain l))) upper
+        (subst (IsDownlinkAmong own) (sym (t.parents (ix.top - h.depth) (omega arith))) among)))
       where
         had_none : IsHad at first_context (chain (ix.top - (h.depth - 1))) own → ⊥
         had_none a =
@@ -266,7 +266,7 @@ module _ (pages : List Page) (stand : StandAtTheirBlocks pages) (chain : ℕ →
     one_bound : first.link.bound ≡ i.link.bound
     one_bound =
         let d = item_due h i in
-        let e : IsDue at first_context lower first.link = subst (λ (n : ℕ). IsDue at first_context (chain (ix.top - suc n)) first.link) one_depth (item_due page first) in
+        let e : HasDueDownlink at first_context lower first.link = subst (λ (n : ℕ). HasDueDownlink at first_context (chain (ix.top - suc n)) first.link) one_depth (item_due page first) in
         let one = one_place lower e.place d.place i.link.child (t.distinct (ix.top - suc h.depth) (omega arith)) (e.there ∙ ap Some same) d.there in
         e.bound ∙ ap (λ (n : ℕ). (context_after at first_context (take n lower)).low) one ∙ sym d.bound
 

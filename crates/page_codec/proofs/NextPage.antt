@@ -5,7 +5,7 @@ use Rattle.page_codec.proofs.Imports.{append-nil, Begins}
 use Rattle.page_codec.proofs.Pieces.{items_more, items_first, items_later}
 
 -- the list goes on after the items with others, whose bytes come next
-pub record ContinuesAs {A : Type 0} (Q : A → Type 0) (spelled : A → List ℕ) (items : List A) (rest : List ℕ) (xs : List A) : Type 0 where
+pub record GoesOnWithOthers {A : Type 0} (Q : A → Type 0) (spelled : A → List ℕ) (items : List A) (rest : List ℕ) (xs : List A) : Type 0 where
   pub more : List A
   pub same : xs ≡ items ++ more
   pub valid : AllByRecursion Q more
@@ -16,14 +16,14 @@ pub record HasNext {A : Type 0} (Q : A → Type 0) (spelled : A → List ℕ) (w
   pub item : A
   pub valid : Q item
   pub front : Begins (spelled item) rest
-  pub goes_on : ContinuesAs Q spelled (items ++ item ∷ []) (drop width rest) xs
+  pub goes_on : GoesOnWithOthers Q spelled (items ++ item ∷ []) (drop width rest) xs
 
 module _ {A : Type 0} (spelled : A → List ℕ) where
-  pub starts : (Q : A → Type 0) (xs : List A) (rest : List ℕ) → AllByRecursion Q xs → Begins (flat_map spelled xs) rest → ContinuesAs Q spelled [] rest xs
+  pub starts : (Q : A → Type 0) (xs : List A) (rest : List ℕ) → AllByRecursion Q xs → Begins (flat_map spelled xs) rest → GoesOnWithOthers Q spelled [] rest xs
   starts Q xs rest h b = record { more = xs; same = refl; valid = h; front = b }
 
   pub next : (Q : A → Type 0) (width : ℕ) (long : (x : A) → Q x → length (spelled x) ≡ width) (items xs : List A) (rest : List ℕ)
-      → ContinuesAs Q spelled items rest xs → length items < length xs → HasNext Q spelled width items rest xs
+      → GoesOnWithOthers Q spelled items rest xs → length items < length xs → HasNext Q spelled width items rest xs
   next Q width long items xs rest g lt = by g.more refl
     where
       by : (more : List A) → more ≡ g.more → HasNext Q spelled width items rest xs
@@ -46,7 +46,7 @@ module _ {A : Type 0} (spelled : A → List ℕ) where
             };
           }
 
-  pub ends : (Q : A → Type 0) (items xs : List A) (rest : List ℕ) → ContinuesAs Q spelled items rest xs → length items ≡ length xs → items ≡ xs
+  pub ends : (Q : A → Type 0) (items xs : List A) (rest : List ℕ) → GoesOnWithOthers Q spelled items rest xs → length items ≡ length xs → items ≡ xs
   ends Q items xs rest g many = by g.more refl
     where
       by : (more : List A) → more ≡ g.more → items ≡ xs

@@ -2,9 +2,7 @@
 use Rattle.std.proofs.Common.{◌≡◌, ℕ, zero, suc, ◌≤◌, ◌<◌, List, [], ◌∷◌, length, take, get_or, refl, arith}
 use Rattle.std.proofs.lemmas.Nat.{le_bytes_2, le_bytes_4}
 use Rattle.byteorder.specs.Endian.{little_bytes, little_number}
-
-abbrev Bytes : List ℕ → Type 0
-Bytes bs = (i : ℕ) → get_or bs i 0 < 256
+use Rattle.index_model.proofs.Words.{Bytes}
 
 pub two_again : (bs : List ℕ) → 2 ≤ length bs → Bytes bs → little_bytes 2 (little_number 2 bs) ≡ take 2 bs
 two_again [] le h = absurd (omega arith)

@@ -22,7 +22,7 @@ pinned_same session old new same other block page differ at pin =
     subst (λ (st : State). WasLeaf st.pages block) (sym same) (record { page = page; was = at })
 
 -- what a reading leaves of why a later part is refused
-pub record HasRead {S : Type 0} (g : Ghosts S) (old mid : S) : Type 0 where
+pub record LeavesCauses {S : Type 0} (g : Ghosts S) (old mid : S) : Type 0 where
   pub steps : Continues g.follows old mid
   pub state : g.state mid ≡ g.state old
   pub alive : (g.backing mid).stopped ≡ true → (g.backing old).stopped ≡ true
@@ -30,12 +30,12 @@ pub record HasRead {S : Type 0} (g : Ghosts S) (old mid : S) : Type 0 where
   pub failures : (g.backing old).failures ≤ (g.backing mid).failures
 
 pub read_on : {S : Type 0} (g : Ghosts S) (old mid : S) → Continues g.follows old mid → g.state mid ≡ g.state old → ((g.backing mid).stopped ≡ true → (g.backing old).stopped ≡ true)
-    → (g.backing mid).promised ≡ (g.backing old).promised → IsLater (g.backing old) (g.backing mid) → HasRead g old mid
+    → (g.backing mid).promised ≡ (g.backing old).promised → IsLater (g.backing old) (g.backing mid) → LeavesCauses g old mid
 read_on g old mid steps same alive promised later = record { steps = steps; state = same; alive = alive; promised = promised; failures = later.failures }
 
 module _ {S : Type 0} (g : Ghosts S) (session : ℕ) where
   -- why a later part is refused, from before the reading
-  pub cause_later : (old mid new : S) (written : List ℕ) (fault : Fault) → HasRead g old mid → HasCause (causes_of_trying (g.state mid) (g.backing mid) (g.backing new) session written) fault
+  pub cause_later : (old mid new : S) (written : List ℕ) (fault : Fault) → LeavesCauses g old mid → HasCause (causes_of_trying (g.state mid) (g.backing mid) (g.backing new) session written) fault
       → HasCause (causes_of_trying (g.state old) (g.backing old) (g.backing new) session written) fault
   cause_later old mid new written fault r h =
       working_later (g.state old) (g.backing old) (g.backing mid) (g.backing new) session written (frames_for written) false false fault r.failures r.alive r.promised
@@ -43,7 +43,7 @@ module _ {S : Type 0} (g : Ghosts S) (session : ℕ) where
 
   module _ (written : State → List ℕ) (sure : State → Type 0) (change : State → State → Type 0) (reason : State → Type 0) where
     -- ... after a reading
-    pub tried_later : (old mid new : S) (result : Result Bool Fault) → HasRead g old mid → IsTried g session written sure change reason mid new result
+    pub tried_later : (old mid new : S) (result : Result Bool Fault) → LeavesCauses g old mid → IsTried g session written sure change reason mid new result
         → IsTried g session written sure change reason old new result
     tried_later old mid new result r t = record {
       steps = λ first h. t.steps first (r.steps first h);

@@ -45,7 +45,7 @@ has_between [] (x ∷ more) rest (suc k) d less = later_has x (get_or more k d) 
 has_between (f ∷ front) more rest k d less = later_has f (get_or more k d) (front ++ (more ++ rest)) (has_between front more rest k d less)
 
 -- From this place of the order on, `count` pages were written, one after the other.
-pub record AtEachMoment (pinned : List ℕ) (durable place count : ℕ) (old new : Pool) : Type 0 where
+pub record AreWrittenInTurn (pinned : List ℕ) (durable place count : ℕ) (old new : Pool) : Type 0 where
   pub front : List ℕ
   pub more : List ℕ
   pub rest : List ℕ
@@ -57,7 +57,7 @@ pub record AtEachMoment (pinned : List ℕ) (durable place count : ℕ) (old new
   pub few : (b : ℕ) → act_of new b ≤ act_of old b
   pub same : (b : ℕ) → has_block (changed_of new) b ≡ true → act_of new b ≡ act_of old b
 
-pub goes_none : (pinned : List ℕ) (durable place : ℕ) (pool : Pool) → place ≤ length (changed_of pool) → AtEachMoment pinned durable place 0 pool pool
+pub goes_none : (pinned : List ℕ) (durable place : ℕ) (pool : Pool) → place ≤ length (changed_of pool) → AreWrittenInTurn pinned durable place 0 pool pool
 goes_none pinned durable place pool within = record {
   front = take place (changed_of pool);
   more = [];
@@ -71,8 +71,8 @@ goes_none pinned durable place pool within = record {
   same = λ b among. refl;
 }
 
-module _ (pinned : List ℕ) (durable place count : ℕ) (old mid : Pool) (g : AtEachMoment pinned durable place count old mid) where
-  pub goes_next : (new : Pool) → IsWrittenNext pinned durable place mid new → AtEachMoment pinned durable place (count + 1) old new
+module _ (pinned : List ℕ) (durable place count : ℕ) (old mid : Pool) (g : AreWrittenInTurn pinned durable place count old mid) where
+  pub goes_next : (new : Pool) → IsWrittenNext pinned durable place mid new → AreWrittenInTurn pinned durable place (count + 1) old new
   goes_next new n =
       let at : slice_get (g.front ++ g.rest) (length g.front) ≡ Some n.block =
       subst (λ (k : ℕ). slice_get (g.front ++ g.rest) k ≡ Some n.block) (sym g.behind) (subst (λ (l : List ℕ). slice_get l place ≡ Some n.block) g.left n.at) in

@@ -15,7 +15,7 @@ use Rattle.recovery.proofs.Imports.{ChangesNamed, AreHomed, IsSynced, IsNoMemory
 use Rattle.recovery.proofs.Named.{same_named}
 
 -- of each block the page is the last of these images, or stands at home; and no crash changes that
-pub record Stands (limits : Format) (images pages : List Page) (m : DiskMoment) : Type 0 where
+pub record StandsOnDisk (limits : Format) (images pages : List Page) (m : DiskMoment) : Type 0 where
   pub superblock_on : OnDisk 0 (superblock limits) m
   pub long : place limits limits.pages ≤ length m.seen
   pub few : length pages ≤ limits.pages
@@ -28,7 +28,7 @@ firm_on : (at : ℕ) (bytes : List ℕ) (m : DiskMoment) → IsSynced m → Has 
 firm_on at bytes m firm has = record { has = has; firm = λ i lt. firm (at + i) }
 
 -- what a synced device restarts to stands there
-pub stands_at : (limits : Format) (pages : List Page) (m : DiskMoment) → IsSynced m → (r : RestartsTo limits m.seen pages) → Stands limits (images_of r.groups) pages m
+pub stands_at : (limits : Format) (pages : List Page) (m : DiskMoment) → IsSynced m → (r : RestartsTo limits m.seen pages) → StandsOnDisk limits (images_of r.groups) pages m
 stands_at limits pages m firm r = record {
   superblock_on = firm_on 0 (superblock limits) m firm r.superblock_is;
   long = r.long;
@@ -39,7 +39,7 @@ stands_at limits pages m firm r = record {
 }
 
 -- a crash leaves it, if the log's range that it leaves has these images
-pub stands_leaves : (limits : Format) (images pages : List Page) (m : DiskMoment) → Stands limits images pages m → (image : List ℕ) → MayCrashTo m image
+pub stands_leaves : (limits : Format) (images pages : List Page) (m : DiskMoment) → StandsOnDisk limits images pages m → (image : List ℕ) → MayCrashTo m image
     → (groups : List (List Page)) → SpellsGroups limits (log_range limits image) groups
     → ((block : ℕ) → last_image (images_of groups) block ≡ last_image images block) → RestartsTo limits image pages
 stands_leaves limits images pages m s image left groups spells same = record {
@@ -60,7 +60,7 @@ unkept found images block lasts none = lasts.each block ∙ ap (option_map page_
 
 -- it stays while places of blocks with an image are written
 pub stands_named : (limits : Format) (images pages : List Page) (found : Replayed) (a b : DiskMoment) → HoldsLast found images
-    → ChangesNamed limits found a b → Stands limits images pages a → Stands limits images pages b
+    → ChangesNamed limits found a b → StandsOnDisk limits images pages a → StandsOnDisk limits images pages b
 stands_named limits images pages found a b lasts change s = record {
   superblock_on = superblock_kept limits (place limits 0) (4096 * limits.pages) a b (omega arith) change.only s.superblock_on;
   long = omega (arith, s.long, change.only.same_length);
@@ -77,7 +77,7 @@ stands_named limits images pages found a b lasts change s = record {
 }
 
 -- and while the log's range changes
-pub stands_logged : (limits : Format) (images pages : List Page) (a b : DiskMoment) → ChangesOnly 4096 limits.log_bytes a b → Stands limits images pages a → Stands limits images pages b
+pub stands_logged : (limits : Format) (images pages : List Page) (a b : DiskMoment) → ChangesOnly 4096 limits.log_bytes a b → StandsOnDisk limits images pages a → StandsOnDisk limits images pages b
 stands_logged limits images pages a b only s = record {
   superblock_on = superblock_kept limits 4096 limits.log_bytes a b (omega arith) only s.superblock_on;
   long = omega (arith, s.long, only.same_length);
@@ -90,7 +90,7 @@ stands_logged limits images pages a b only s = record {
 
 -- once the images are written all pages stand at home
 pub stands_home : (limits : Format) (images pages : List Page) (found : Replayed) (m : DiskMoment) → HoldsLast found images → AreHomed limits found m
-    → Stands limits images pages m → Stands limits [] pages m
+    → StandsOnDisk limits images pages m → StandsOnDisk limits [] pages m
 stands_home limits images pages found m lasts homed s = record {
   superblock_on = s.superblock_on;
   long = s.long;
@@ -102,7 +102,7 @@ stands_home limits images pages found m lasts homed s = record {
   unused = λ block past small. (refl, (s.unused block past small).1);
 }
 
-pub home_of : (limits : Format) (pages : List Page) (m : DiskMoment) → Stands limits [] pages m → AreHome limits [] pages m
+pub home_of : (limits : Format) (pages : List Page) (m : DiskMoment) → StandsOnDisk limits [] pages m → AreHome limits [] pages m
 home_of limits pages m s = record {
   used = λ block page found none. ⊎_elim (λ (late : None ≡ Some page). absurd cc) (λ home. home.1) (s.used block page found);
   unused = λ block past small none. (s.unused block past small).1;
@@ -137,10 +137,10 @@ module _ (limits : Format) (images pages : List Page) (found : Replayed) (t : Tr
   abbrev gs : List (List Page)
   gs = r.replays.groups
 
-  pub started : Stands limits images pages t.now
+  pub started : StandsOnDisk limits images pages t.now
   started =
       let one : r.restarts.groups ≡ gs = r.replays.only r.restarts.groups r.restarts.spells in
-      subst (λ (l : List Page). Stands limits l pages t.now) (ap images_of one ∙ sym r.replays.images_are) (stands_at limits pages t.now r.firm r.restarts)
+      subst (λ (l : List Page). StandsOnDisk limits l pages t.now) (ap images_of one ∙ sym r.replays.images_are) (stands_at limits pages t.now r.firm r.restarts)
 
   keeps : LogHolds log t.now gs (length gs)
   keeps = r.replays.keeps (record { firm = λ i lt. r.firm (4096 + i) })
@@ -168,10 +168,10 @@ module _ (limits : Format) (images pages : List Page) (found : Replayed) (t : Tr
     now_named : ChangesNamed limits found t.now u.now
     now_named = goes_now _ t u moments (same_named limits found t.now)
 
-    both : Stands limits images pages u.now
+    both : StandsOnDisk limits images pages u.now
     both = stands_named limits images pages found t.now u.now r.lasts now_named started
 
-    pub at_home : Stands limits [] pages u.now
+    pub at_home : StandsOnDisk limits [] pages u.now
     at_home = stands_home limits images pages found u.now r.lasts homed both
 
     closing_leaves : (m : DiskMoment) → RestartsOrEmpty limits (take (length gs) gs) m → ChangesOnly 4096 limits.log_bytes u.now m → CrashesToPages limits pages m

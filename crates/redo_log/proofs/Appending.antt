@@ -3,7 +3,7 @@ use Rattle.std.proofs.Common.{◌≡◌, inl, inr, ⊎_elim, true, false, ℕ, z
 use Rattle.redo_log.proofs.Imports.{take-append-le, drop-append-le, DiskMoment, Page, SameImages, images_of, with_blocks, new_count, with_images, AreLaid, LogHolds, IsAjar, IsSettled, MayBeLetIn, ImagesFit}
 use Rattle.redo_log.proofs.Imports.{waiting_blocks, waiting_count, Log}
 use Rattle.redo_log.proofs.ImageLists.{same_append, same_trans, same_eq, images_of-push}
-use Rattle.redo_log.proofs.BlockLists.{AreDistinct, distinct, length-with_blocks}
+use Rattle.redo_log.proofs.BlockLists.{EachStandsOnce, distinct, length-with_blocks}
 use Rattle.redo_log.proofs.Laying.{with_images-same}
 
 -- what waits has the images of the action too, each in the place of its block's
@@ -23,7 +23,7 @@ keeps_more old new images limits at stopped ajar changed laid m acts forced k =
       few = omega (arith, length-append acts (images ∷ []), k.few);
       durable = subst (λ (l : List (List Page)). SameImages (images_of k.groups) (images_of l)) (sym (take-append-le forced acts (images ∷ []) k.few)) k.durable;
       unforced = same_trans (with_images k.waiting images) (k.waiting ++ images) (images_of (drop forced (acts ++ images ∷ [])))
-          (with_images-same k.waiting images (subst AreDistinct (sym k.waits.blocks) (distinct old.waiting.places.items (waiting_blocks old) old.waiting.placed)))
+          (with_images-same k.waiting images (subst EachStandsOnce (sym k.waits.blocks) (distinct old.waiting.places.items (waiting_blocks old) old.waiting.placed)))
           (same_trans (k.waiting ++ images) (images_of (drop forced acts) ++ images) (images_of (drop forced (acts ++ images ∷ [])))
           (same_append k.waiting (images_of (drop forced acts)) images k.unforced)
           (same_eq _ _ (sym (ap images_of (drop-append-le forced acts (images ∷ []) k.few) ∙ images_of-push (drop forced acts) images))));

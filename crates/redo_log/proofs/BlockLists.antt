@@ -6,9 +6,9 @@ use Rattle.redo_log.proofs.Imports.{true≢false, false≢true, get_or_append_le
 use Rattle.redo_log.proofs.Imports.{with_blocks, new_count, AreInside}
 
 -- each of these blocks stands there once
-abbrev pub AreDistinct : List ℕ → Type 0
-AreDistinct [] = ⊤
-AreDistinct (b ∷ blocks) = (is_among_blocks blocks b ≡ false) × AreDistinct blocks
+abbrev pub EachStandsOnce : List ℕ → Type 0
+EachStandsOnce [] = ⊤
+EachStandsOnce (b ∷ blocks) = (is_among_blocks blocks b ≡ false) × EachStandsOnce blocks
 
 -- a block that stands at a place is among them
 pub is_among-at : (blocks : List ℕ) (block k : ℕ) → k < length blocks → get_or blocks k 0 ≡ block → is_among_blocks blocks block ≡ true
@@ -77,7 +77,7 @@ inside-push blocks block size inside below k lt = ⊎_elim
     (cases_lt k (length blocks))
 
 -- if a table has each of them at its own place, they are distinct
-distinct_placed : (places blocks : List ℕ) (from : ℕ) → ((k : ℕ) → k < length blocks → get_or places (get_or blocks k 0) 0 ≡ from + k) → AreDistinct blocks
+distinct_placed : (places blocks : List ℕ) (from : ℕ) → ((k : ℕ) → k < length blocks → get_or places (get_or blocks k 0) 0 ≡ from + k) → EachStandsOnce blocks
 distinct_placed places [] from placed = tt
 distinct_placed places (b ∷ blocks) from placed = (
   false_from_ne_true (is_among_blocks blocks b) (λ among.
@@ -87,11 +87,11 @@ distinct_placed places (b ∷ blocks) from placed = (
 )
 
 -- so those that a table has the places of are
-pub distinct : (places blocks : List ℕ) → ArePlaced places blocks → AreDistinct blocks
+pub distinct : (places blocks : List ℕ) → ArePlaced places blocks → EachStandsOnce blocks
 distinct places blocks placed = distinct_placed places blocks 0 (λ k lt. omega (arith, placed k lt))
 
 -- with a new one after them they are distinct
-pub distinct-push : (blocks : List ℕ) (block : ℕ) → AreDistinct blocks → is_among_blocks blocks block ≡ false → AreDistinct (blocks ++ block ∷ [])
+pub distinct-push : (blocks : List ℕ) (block : ℕ) → EachStandsOnce blocks → is_among_blocks blocks block ≡ false → EachStandsOnce (blocks ++ block ∷ [])
 distinct-push [] block distinct new = (refl, tt)
 distinct-push (b ∷ blocks) block distinct new =
     let parts = or_parts (b == block) (is_among_blocks blocks block) new in
@@ -107,10 +107,10 @@ pub with_block-new : (blocks : List ℕ) (block : ℕ) → is_among_blocks block
 with_block-new blocks block new = ap (λ (t : Bool). cond t blocks (blocks ++ block ∷ [])) new
 
 -- either way they stay distinct
-pub distinct-with_block : (blocks : List ℕ) (block : ℕ) → AreDistinct blocks → AreDistinct (with_block blocks block)
+pub distinct-with_block : (blocks : List ℕ) (block : ℕ) → EachStandsOnce blocks → EachStandsOnce (with_block blocks block)
 distinct-with_block blocks block distinct = ⊎_elim
-    (λ old. subst AreDistinct (sym (with_block-old blocks block old)) distinct)
-    (λ new. subst AreDistinct (sym (with_block-new blocks block new)) (distinct-push blocks block distinct new))
+    (λ old. subst EachStandsOnce (sym (with_block-old blocks block old)) distinct)
+    (λ new. subst EachStandsOnce (sym (with_block-new blocks block new)) (distinct-push blocks block distinct new))
     (cases_Bool (is_among_blocks blocks block))
 
 -- the step of the next lemma but one, in tests: a, whether the block of an image is among those that wait; e,

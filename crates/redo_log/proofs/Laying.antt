@@ -9,7 +9,7 @@ use Rattle.redo_log.proofs.Imports.{take-append-add, drop-append-add, cases_Bool
 use Rattle.redo_log.proofs.Imports.{drop-take, take-take, with_items_is, get_or_append_left, length_push, Format, Page, length-page, if_of, later_of, last_image, SameImages, images_bytes, IsImage, AreImages}
 use Rattle.redo_log.proofs.Imports.{image_blocks, is_among_blocks, with_block, with_image, with_images, AreLaid}
 use Rattle.redo_log.proofs.ImageLists.{images_bytes-append, last_image-append, same_eq, same_trans, same_append, same_after, after_head}
-use Rattle.redo_log.proofs.BlockLists.{AreDistinct, is_among-at, with_block-old, with_block-new, distinct-with_block}
+use Rattle.redo_log.proofs.BlockLists.{EachStandsOnce, is_among-at, with_block-old, with_block-new, distinct-with_block}
 
 -- an image has one block
 pub length-blocks_of : (ps : List Page) → length (image_blocks ps) ≡ length ps
@@ -32,7 +32,7 @@ last_image-none (p ∷ ps) block new =
     ap (λ (o : Option Page). later_of (if_of block p) o) (last_image-none ps block parts.1) ∙ ap (λ (t : Bool). cond t (Some p) None) parts.0
 
 -- the image in the place of its block's counts as one after them all
-pub with_image-same : (ps : List Page) (p : Page) → AreDistinct (image_blocks ps) → SameImages (with_image ps p) (ps ++ p ∷ [])
+pub with_image-same : (ps : List Page) (p : Page) → EachStandsOnce (image_blocks ps) → SameImages (with_image ps p) (ps ++ p ∷ [])
 with_image-same [] p distinct = same_eq (p ∷ []) (p ∷ []) refl
 with_image-same (q ∷ qs) p distinct = ⊎_elim
     (λ here. same_trans (with_image (q ∷ qs) p) (p ∷ qs) (q ∷ qs ++ p ∷ []) (same_eq _ _ (with_image-here q qs p here)) (record { each = λ block. moved block here (cases_Bool (p.block == block)) }))
@@ -87,7 +87,7 @@ drop_after : (front more : List ℕ) (n m : ℕ) → n ≡ length front + m → 
 drop_after front more n m e = ap (λ (k : ℕ). drop k (front ++ more)) e ∙ drop-append-add front more m
 
 -- the bytes of those of which the one at this place is replaced
-bytes-with_image : (limits : Format) (ps : List Page) (p : Page) (k at : ℕ) → AreImages limits ps → AreDistinct (image_blocks ps) → k < length ps
+bytes-with_image : (limits : Format) (ps : List Page) (p : Page) (k at : ℕ) → AreImages limits ps → EachStandsOnce (image_blocks ps) → k < length ps
     → get_or (image_blocks ps) k 0 ≡ p.block → at ≡ 4096 * k
     → images_bytes (with_image ps p) ≡ take at (images_bytes ps) ++ (page_bytes p ++ drop (at + 4096) (images_bytes ps))
 bytes-with_image limits [] p k at are distinct lt is e = absurd (omega arith)
@@ -128,11 +128,11 @@ pub none_laid : (limits : Format) (order buffer : List ℕ) → order ≡ [] →
 none_laid limits order buffer none = subst (λ (l : List ℕ). AreLaid limits l buffer []) (sym none) (record { counted = refl; images = tt; blocks = refl; buffered = refl })
 
 -- the images in the places of their blocks' count as those after them all
-pub with_images-same : (laid ps : List Page) → AreDistinct (image_blocks laid) → SameImages (with_images laid ps) (laid ++ ps)
+pub with_images-same : (laid ps : List Page) → EachStandsOnce (image_blocks laid) → SameImages (with_images laid ps) (laid ++ ps)
 with_images-same laid [] distinct = same_eq laid (laid ++ []) (sym (append-nil laid))
 with_images-same laid (p ∷ ps) distinct =
     same_trans (with_images (with_image laid p) ps) (with_image laid p ++ ps) (laid ++ p ∷ ps)
-    (with_images-same (with_image laid p) ps (subst AreDistinct (sym (blocks_of-with_image laid p)) (distinct-with_block (image_blocks laid) p.block distinct)))
+    (with_images-same (with_image laid p) ps (subst EachStandsOnce (sym (blocks_of-with_image laid p)) (distinct-with_block (image_blocks laid) p.block distinct)))
     (same_trans (with_image laid p ++ ps) ((laid ++ p ∷ []) ++ ps) (laid ++ p ∷ ps)
     (same_append (with_image laid p) (laid ++ p ∷ []) ps (with_image-same laid p distinct))
     (same_eq _ _ (append_assoc laid (p ∷ []) ps)))
@@ -142,12 +142,12 @@ abbrev written : List ℕ → Page → ℕ → List ℕ
 written old p k = drop 4 (put_mid (4 + 4096 * k) 4096 old (page_bytes p))
 
 -- an image takes the place of the one of its block
-laid_old : (limits : Format) (order old : List ℕ) (p : Page) (k : ℕ) → k < length order → get_or order k 0 ≡ p.block → AreDistinct order → 4 + 4096 * length order ≤ length old → IsImage limits p
+laid_old : (limits : Format) (order old : List ℕ) (p : Page) (k : ℕ) → k < length order → get_or order k 0 ≡ p.block → EachStandsOnce order → 4 + 4096 * length order ≤ length old → IsImage limits p
     → (laid : List Page) → AreLaid limits order old laid → take (4096 * length order) (written old p k) ≡ images_bytes (with_image laid p)
 laid_old limits order old p k lt is distinct fits image laid a =
     replaced old (page_bytes p) (4096 * k) (4096 * length order) (length-page p image.page) (omega arith) (omega arith)
     ∙ (ap (λ (l : List ℕ). take (4096 * k) l ++ (page_bytes p ++ drop (4096 * k + 4096) l)) a.buffered
-    ∙ sym (bytes-with_image limits laid p k (4096 * k) a.images (subst AreDistinct (sym a.blocks) distinct) (omega (arith, a.counted)) (ap (λ (l : List ℕ). get_or l k 0) a.blocks ∙ is) refl))
+    ∙ sym (bytes-with_image limits laid p k (4096 * k) a.images (subst EachStandsOnce (sym a.blocks) distinct) (omega (arith, a.counted)) (ap (λ (l : List ℕ). get_or l k 0) a.blocks ∙ is) refl))
 
 -- an image of another block is laid after them
 laid_new : (limits : Format) (order old : List ℕ) (p : Page) → is_among_blocks order p.block ≡ false → 4 + 4096 * (length order + 1) ≤ length old → IsImage limits p
@@ -164,7 +164,7 @@ laid_new limits order old p new fits image laid a =
     ∙ (sym (images_bytes-append laid (p ∷ [])) ∙ ap images_bytes (sym (with_image-new laid p (ap (λ (l : List ℕ). is_among_blocks l p.block) a.blocks ∙ new)))))))
 
 -- one image more is laid, at its block's place among those that wait then
-pub laid_more : (limits : Format) (order order' old new : List ℕ) (p : Page) (k : ℕ) → order' ≡ with_block order p.block → k < length order' → get_or order' k 0 ≡ p.block → AreDistinct order
+pub laid_more : (limits : Format) (order order' old new : List ℕ) (p : Page) (k : ℕ) → order' ≡ with_block order p.block → k < length order' → get_or order' k 0 ≡ p.block → EachStandsOnce order
     → 4 + 4096 * length order' ≤ length old → new ≡ put_mid (4 + 4096 * k) 4096 old (page_bytes p) → IsImage limits p
     → (laid : List Page) → AreLaid limits order old laid → AreLaid limits order' new (with_image laid p)
 laid_more limits order order' old new p k more lt is distinct fits put image laid a =

@@ -8,7 +8,7 @@ use Rattle.shared_world.proofs.Imports.{has_call, slot_of, DeadSets, asked_by, R
 use Rattle.shared_world.proofs.Imports.{get_within, inside, World, OriginGhosts, OriginOnGhosts, GroupGhosts, Live, Job, Scan, PendingCall, IsEventDone, MayBeLeft, given_after, given_more, gift_of, IsBelowRoom, IsWithinRoom, HasRoomLeft, request_of}
 use Rattle.shared_world.proofs.Imports.{WasLeft, completed_of}
 use Rattle.shared_world.proofs.Happening.{keeps_going, keeps_ended}
-use Rattle.shared_world.proofs.Handing.{IsNext}
+use Rattle.shared_world.proofs.Handing.{IsMadeByEvent}
 use Rattle.shared_world.proofs.Noting.{some_same, busy_is, last_of, OthersRunOn, others_run_on, matches_runs, matches_ends}
 use Rattle.shared_world.proofs.Sharing.{pending_in, log_in, RunsAt, KeepsWith, CarriesOn}
 use Rattle.shared_world.proofs.Transiting.{makes_of, next_acts, end_acts}
@@ -83,7 +83,7 @@ module _ {S : Type 0} (g : Ghosts S) (w v : StoreAndSlots S) (s : ℕ) (runs : h
 
 -- ... and what either leaves under the lock
 module _ {S T J : Type 0} {g : Ghosts S} {rows : SetGhosts T} {past : OriginOnGhosts J S} {j : OriginGhosts J} {group : GroupGhosts J} (self : Live S T J g rows past j group) (world : World S T)
-    (one : OneCallRuns g) (next : IsNext g (inside rows self.world) (inside rows world)) (s : ℕ) {p : PendingCall} (here : RunsAt self s p) where
+    (one : OneCallRuns g) (next : IsMadeByEvent g (inside rows self.world) (inside rows world)) (s : ℕ) {p : PendingCall} (here : RunsAt self s p) where
   abbrev w : StoreAndSlots S
   w = inside rows self.world
 

@@ -9,7 +9,7 @@ use Rattle.shared_world.proofs.Imports.{EventEffect, KeepsHistory, Upkeep, Force
 use Rattle.shared_world.proofs.Imports.{EventFollows, Fits, Event, goes_does, begins_told, keeps_silent, get_within, inside, World, OriginGhosts, OriginOnGhosts, GroupGhosts, Live, Job, PendingCall, event_of, request_of}
 use Rattle.shared_world.proofs.Imports.{upkeep_of, begins, IsBlocked, KeepsFitting, completed_of}
 use Rattle.shared_world.proofs.Noting.{set_same, busy_is, OthersRunOn, rests_there, matches_runs, matches_stays}
-use Rattle.shared_world.proofs.Handing.{IsNext}
+use Rattle.shared_world.proofs.Handing.{IsMadeByEvent}
 use Rattle.shared_world.proofs.Sharing.{pending_in, log_in, KeepsWith, CarriesOn}
 use Rattle.shared_world.proofs.Acting.{acts_begun, acts_at_once}
 use Rattle.shared_world.proofs.Transiting.{makes_of}
@@ -76,7 +76,7 @@ kept_of g Flushes answer x y h count e = absurd cc
 
 -- a beginning under the lock, and what it leaves there
 module _ {S T J : Type 0} {g : Ghosts S} {rows : SetGhosts T} {past : OriginOnGhosts J S} {j : OriginGhosts J} {group : GroupGhosts J} (self : Live S T J g rows past j group) (world : World S T)
-    (next : IsNext g (inside rows self.world) (inside rows world)) (s : ℕ) (p : PendingCall) (idle : slice_get (pending_in self) s ≡ Some None)
+    (next : IsMadeByEvent g (inside rows self.world) (inside rows world)) (s : ℕ) (p : PendingCall) (idle : slice_get (pending_in self) s ≡ Some None)
     (event : Event) (event_is : event ≡ event_of s p.asked) (answer : Answer)
     (goes : ForEachHistory g (inside rows self.world) (inside rows world) (EventFollows g (inside rows self.world) (inside rows world) event answer))
     (sure : EventAlways g (kind_of event) answer (inside rows self.world) (inside rows world)) (from : p.from ≡ (g.state self.world.store).acts) (seen : p.seen ≡ length (log_in self))

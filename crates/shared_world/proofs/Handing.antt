@@ -6,7 +6,7 @@ use Rattle.shared_world.proofs.Imports.{SetGhosts, Continues, State, Backing, Is
 
 -- an event has made this world of that one: its sessions and sets are the same, its device is a later one,
 -- and its store follows what that one's did
-pub record IsNext {S : Type 0} (g : Ghosts S) (w v : StoreAndSlots S) : Type 0 where
+pub record IsMadeByEvent {S : Type 0} (g : Ghosts S) (w v : StoreAndSlots S) : Type 0 where
   pub sessions : length v.slots ≡ length w.slots
   pub sets : v.sets ≡ w.sets
   pub later : IsLater (g.backing w.store) (g.backing v.store)
@@ -14,7 +14,7 @@ pub record IsNext {S : Type 0} (g : Ghosts S) (w v : StoreAndSlots S) : Type 0 w
 
 -- an event of a world does so
 pub is_next : {S T : Type 0} {g : Ghosts S} (rows : SetGhosts T) {old new : World S T} → Laws g → Continues g.follows old.store new.store → SameSessions old new
-    → IsNext g (inside rows old) (inside rows new)
+    → IsMadeByEvent g (inside rows old) (inside rows new)
 is_next rows {old} {new} laws steps same = record {
   sessions = same.sessions;
   sets = ap (λ s. map rows.is_in s.items) same.sets;
@@ -23,7 +23,7 @@ is_next rows {old} {new} laws steps same = record {
 }
 
 -- the world that was handed in has become this one, by one event more
-pub comes_on : {S : Type 0} (g : Ghosts S) (first : Handed) (start : ℕ) (w v : StoreAndSlots S) → IsNext g w v → ComesOf g first start w → ComesOf g first start v
+pub comes_on : {S : Type 0} (g : Ghosts S) (first : Handed) (start : ℕ) (w v : StoreAndSlots S) → IsMadeByEvent g w v → ComesOf g first start w → ComesOf g first start v
 comes_on g first start w v next c = record {
   start_is = c.start_is;
   sessions_are = next.sessions ∙ c.sessions_are;
@@ -41,5 +41,5 @@ comes_first g laws handed start w is was = record {
 }
 
 -- it follows what it followed, after one event more
-pub follows_on : {S : Type 0} (g : Ghosts S) (followed : S → Type 0) (w v : StoreAndSlots S) → IsNext g w v → StillFollows g followed w.store → StillFollows g followed v.store
+pub follows_on : {S : Type 0} (g : Ghosts S) (followed : S → Type 0) (w v : StoreAndSlots S) → IsMadeByEvent g w v → StillFollows g followed w.store → StillFollows g followed v.store
 follows_on g followed w v next all first was = next.steps first (all first was)

@@ -8,7 +8,7 @@ use Rattle.session_seats.specs.declared.call.PendingCall.{PendingCall}
 use Rattle.session_seats.specs.declared.seating.SessionView.{SessionView}
 use Rattle.shared_world.specs.Leaving.{LeavesCall}
 use Rattle.shared_world.proofs.Imports.{∥∥₁_map, Answer, SetGhosts, Ghosts, has_call, StoreAndSlots, GroupGhosts, OriginGhosts, OriginOnGhosts, inside, World, Live, HasActed, ComesOf, StillFollows, KeepsAll, MatchesPending}
-use Rattle.shared_world.proofs.Handing.{IsNext, comes_on, follows_on}
+use Rattle.shared_world.proofs.Handing.{IsMadeByEvent, comes_on, follows_on}
 use Rattle.shared_world.proofs.Noting.{runs_there, set_same, set_twice}
 
 module _ {S T J : Type 0} {g : Ghosts S} {rows : SetGhosts T} {past : OriginOnGhosts J S} {j : OriginGhosts J} {group : GroupGhosts J} (self : Live S T J g rows past j group) where
@@ -46,7 +46,7 @@ module _ {S T J : Type 0} {g : Ghosts S} {rows : SetGhosts T} {past : OriginOnGh
       pub acts : ActsWith (inside rows self.world) pending_in log_in → ActsWith (inside rows world) pending log
       pub matches : MatchesPending self.world.calls.slots.items pending_in → MatchesPending world.calls.slots.items pending
       pub long : length pending ≡ length pending_in
-      pub next : IsNext g (inside rows self.world) (inside rows world)
+      pub next : IsMadeByEvent g (inside rows self.world) (inside rows world)
 
     -- all that is to be so as the lock is released, if the keeper knows this
     abbrev pub IsInOrder : SessionView → Type 0

@@ -4,7 +4,7 @@ use Rattle.whole_calls.specs.Going.{CallIsRun}
 use Rattle.shared_world.proofs.Imports.{Call, SetGhosts, Ghosts, is_last, AnswersStep, has_call, slot_of, Answer, Ended, Op, Inserts, Scans, Bulks, Cleanups, OneCallRuns, StoreAndSlots, Moment}
 use Rattle.shared_world.proofs.Imports.{snapshot_of, HasStepped, IsGivenUpFor, IsMadeAsStep, OneStepAlways, OneStepIsRun, inside, World, OriginGhosts, OriginOnGhosts, GroupGhosts, Live, PendingCall, KeepsFitting, completed_of}
 use Rattle.shared_world.proofs.Noting.{clash, set_same, last_of, others_run_on, matches_goes, matches_ends}
-use Rattle.shared_world.proofs.Handing.{IsNext}
+use Rattle.shared_world.proofs.Handing.{IsMadeByEvent}
 use Rattle.shared_world.proofs.Sharing.{pending_in, log_in, RunsAt, KeepsWith, CarriesOn}
 use Rattle.shared_world.proofs.Transiting.{step_acts_on, step_acts_last}
 use Rattle.shared_world.proofs.Meanings.{IsOfStep, MovesOnTo, EndsTo, steps_no_gift, short_ends, step_on, step_last, step_cut}
@@ -23,7 +23,7 @@ steps_no_end before after answer h e = never before (subst (λ (a : Answer). Ans
 
 -- a step under the lock, and what it leaves there
 module _ {S T J : Type 0} {g : Ghosts S} {rows : SetGhosts T} {past : OriginOnGhosts J S} {j : OriginGhosts J} {group : GroupGhosts J} (self : Live S T J g rows past j group) (world : World S T)
-    (one : OneCallRuns g) (next : IsNext g (inside rows self.world) (inside rows world)) (s : ℕ) {p : PendingCall} (here : RunsAt self s p)
+    (one : OneCallRuns g) (next : IsMadeByEvent g (inside rows self.world) (inside rows world)) (s : ℕ) {p : PendingCall} (here : RunsAt self s p)
     (answer : Answer) (goes : CallIsRun g s (OneStepIsRun g s 5 answer) None (inside rows self.world) (inside rows world))
     (made : IsMadeAsStep g s 5 answer (inside rows self.world) (inside rows world)) (always : OneStepAlways g s answer (inside rows self.world) (inside rows world)) where
   abbrev w : StoreAndSlots S

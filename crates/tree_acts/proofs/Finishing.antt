@@ -7,10 +7,10 @@ use Rattle.tree_acts.proofs.Imports.{IsRootSplit, with_links, cleared, new_root,
 use Rattle.tree_acts.proofs.Imports.{finish_keeps, parent_split_keeps, root_split_keeps, in_append_right, only_the_root_is_clear, IsTree, HasTree, HasCover, IsIncompleteSplit, IsClear}
 use Rattle.tree_acts.proofs.Imports.{SplitIsFinished, ParentIsSplit, RootIsSplit, TreeLasts, ContentsStay, FinishLasts, ParentSplitLasts, RootSplitLasts}
 use Rattle.tree_acts.proofs.Overlays.{pages_length, pages_other, pages_first, pages_second, pages_third, counts_other, node_there, node_same, inside}
-use Rattle.tree_acts.proofs.Gone.{AreInUse, in_use_append, live_in_use}
+use Rattle.tree_acts.proofs.Gone.{NoneIsDeleted, in_use_append, live_in_use}
 use Rattle.tree_acts.proofs.Mending.{mended_apart, mended_first, mended_used, mended_in_use, last_there, apart_last, used_last}
 use Rattle.tree_acts.proofs.Words.{cover_in, contents_same}
-use Rattle.tree_acts.proofs.Lasting.{lasts, fresh_free, fresh_reusable, meta_lives, Stands, stands, right_on_chain, right_in_use, on_level, MetaIs}
+use Rattle.tree_acts.proofs.Lasting.{lasts, fresh_free, fresh_reusable, meta_lives, StandsOnChain, stands, right_on_chain, right_in_use, on_level, MetaIs}
 use Rattle.tree_acts.proofs.UniqueActs.{finish_unique, parent_split_unique, root_split_unique}
 
 -- a page with an incomplete split is live, by the format
@@ -58,11 +58,11 @@ module _ (st : State) (start level : ℕ) (s : Bound) (p : Page) (new : ℕ) (ha
   pub p_stays : (after : Page) → IsClear p after → after.state ≢ Deleted
   p_stays after clear = live_in_use after.state (ap (λ (a : Page). a.state) clear.only ∙ sym (ap (λ (n : Node). n.state) p_here) ∙ p_lives)
 
-  pub p_on : Stands st has.tree level (is_fit (bound_aim s) true) p.block
+  pub p_on : StandsOnChain st has.tree level (is_fit (bound_aim s) true) p.block
   p_on = stands st has.tree start level (bound_aim s) true p.block u.place p_lives
 
 module _ (st : State) (start level : ℕ) (s : Bound) (p q p_after q_after : Page) (new : ℕ) (has : HasTree st) (h : SplitIsFinished st start level s p q p_after q_after new) where
-  pub finish_p : Stands st has.tree level (is_fit (bound_aim s) true) p.block
+  pub finish_p : StandsOnChain st has.tree level (is_fit (bound_aim s) true) p.block
   finish_p = p_on st start level s p new has h.unfinished
 
   pub finish_q : (suc level ≤ has.tree.meta.level) × IsIn q.block (has.tree.chain (suc level)) × ((nodes_of st.pages q.block).state ≡ Live)
@@ -101,7 +101,7 @@ module _ (st : State) (start level : ℕ) (s : Bound) (p q p_after q_after : Pag
   finish_used = pages_length st.limits (length st.pages) st.pages (q_after ∷ p_after ∷ []) h.may (omega arith)
       ∙ (let a = inside st.pages q.block q h.found in let b = finish_p.inside in let c = h.block_is in let d = h.clear.block_is in omega arith)
 
-  finish_in_use : AreInUse (q_after ∷ p_after ∷ [])
+  finish_in_use : NoneIsDeleted (q_after ∷ p_after ∷ [])
   finish_in_use = (
     live_in_use q_after.state (ap (λ (n : Node). n.state) h.after_is ∙ ap (λ (n : Node). n.state) (sym q_here) ∙ finish_q.2),
     (p_stays st start level s p new has h.unfinished p_after h.clear, tt),
@@ -140,13 +140,13 @@ finish_lasts st start level s p q p_after q_after new has h = finishing st start
 
 module _ (st : State) (start level : ℕ) (s : Bound) (p q p_after left right : Page) (mended : List Page) (new : ℕ) (has : HasTree st)
     (h : ParentIsSplit st start level s p q p_after left right mended new) where
-  pub parent_p : Stands st has.tree level (is_fit (bound_aim s) true) p.block
+  pub parent_p : StandsOnChain st has.tree level (is_fit (bound_aim s) true) p.block
   parent_p = p_on st start level s p new has h.unfinished
 
   parent_here : nodes_of st.pages q.block ≡ node_of q
   parent_here = node_there st.pages q.block q h.found
 
-  pub parent_q : Stands st has.tree (suc level) (is_fit (bound_aim s) true) q.block
+  pub parent_q : StandsOnChain st has.tree (suc level) (is_fit (bound_aim s) true) q.block
   parent_q = stands st has.tree start (suc level) (bound_aim s) true q.block h.place (ap (λ (n : Node). n.state) parent_here ∙ h.alive)
 
   parent_apart : (c : ℕ) → c ≢ p.block → c ≢ q.block → c ≢ right.block → (nodes_of st.pages q.block).right ≢ Some c → IsApartFrom c (left ∷ right ∷ mended ++ p_after ∷ [])
@@ -213,7 +213,7 @@ module _ (st : State) (start level : ℕ) (s : Bound) (p q p_after left right : 
           let r = right_on_chain st has.tree (suc level) q.block 0 parent_q.in_tree parent_q.on_chain same in
           (let a = (has.tree.is.in_use (suc level) 0 parent_q.in_tree r).0 in omega arith)
 
-  parent_in_use : AreInUse (left ∷ right ∷ mended ++ p_after ∷ [])
+  parent_in_use : NoneIsDeleted (left ∷ right ∷ mended ++ p_after ∷ [])
   parent_in_use = (
     live_in_use left.state (ap (λ (n : Node). n.state) h.halves.left_is),
     (
@@ -260,7 +260,7 @@ module _ (st : State) (start : ℕ) (s : Bound) (meta meta_after p p_after root 
   pub top_is : meta.level ≡ has.tree.meta.level
   top_is = ap (λ (x : Page). x.level) meta_same
 
-  pub root_p : Stands st has.tree meta.level (is_fit (bound_aim s) true) p.block
+  pub root_p : StandsOnChain st has.tree meta.level (is_fit (bound_aim s) true) p.block
   root_p = p_on st start meta.level s p new has h.unfinished
 
   p_is_root : p.block ≡ has.tree.root
@@ -313,7 +313,7 @@ module _ (st : State) (start : ℕ) (s : Bound) (meta meta_after p p_after root 
   clash : Live ≡ Deleted → ⊥
   clash e = cc
 
-  root_in_use : AreInUse (root ∷ meta_after ∷ p_after ∷ [])
+  root_in_use : NoneIsDeleted (root ∷ meta_after ∷ p_after ∷ [])
   root_in_use = (
     live_in_use root.state (ap (λ (n : Node). n.state) h.root_is),
     (

@@ -5,7 +5,7 @@ use Rattle.tree_acts.proofs.Imports.{began_after, others_began_after, is_reusabl
 use Rattle.tree_acts.proofs.Imports.{length-with_counts, IsUniquePage, AreUnique, IsMetaOf, node_from, nodes_of, LeftContext, IsIn, IsRunOf, IsTreeOf, first_context, IsFree, IsTreeAgain}
 use Rattle.tree_acts.proofs.Imports.{IsTreeAgainWithout, IsReusable, is_fit, IsFitOn, first_in, in_append_right, member, run_back, split_at, trail_stays, places_stay, live_places_stand}
 use Rattle.tree_acts.proofs.Imports.{places_keep_their_level, IsTree, HasTree, LeadsTo, IsStart, KeptDeletedLeadOn, TreeLasts}
-use Rattle.tree_acts.proofs.Gone.{AreInUse, CountUpTo, in_use_count, gone_lead_on, counts_within}
+use Rattle.tree_acts.proofs.Gone.{NoneIsDeleted, CountUpTo, in_use_count, gone_lead_on, counts_within}
 use Rattle.tree_acts.proofs.Lows.{lows_of}
 use Rattle.tree_acts.proofs.Overlays.{page_length}
 use Rattle.tree_acts.proofs.Words.{place_in, trail_in}
@@ -122,7 +122,7 @@ fresh_reusable st new start f is gone = elim (cases_lt new (length st.pages)) [
     never none' gone = clash (sym (ap (λ (o : Option Page). (node_from o).state) none') ∙ gone)
 
 -- a live page that is a place stands on its chain, and isn't the metapage
-pub record Stands (st : State) (tree : IsTree st.pages) (level : ℕ) (fit : LeftContext → Bool) (block : ℕ) : Type 0 where
+pub record StandsOnChain (st : State) (tree : IsTree st.pages) (level : ℕ) (fit : LeftContext → Bool) (block : ℕ) : Type 0 where
   pub in_tree : level ≤ tree.meta.level
   pub fits : IsFitOn (nodes_of st.pages) first_context (tree.chain level) fit block
   pub on_chain : IsIn block (tree.chain level)
@@ -131,7 +131,7 @@ pub record Stands (st : State) (tree : IsTree st.pages) (level : ℕ) (fit : Lef
   pub inside : block < length st.pages
 
 pub stands : (st : State) (tree : IsTree st.pages) (start level : ℕ) (aim : Bound → Bool) (clear : Bool) (block : ℕ) → LeadsTo st start level aim clear block → (nodes_of st.pages block).state ≡ Live
-    → Stands st tree level (is_fit aim clear) block
+    → StandsOnChain st tree level (is_fit aim clear) block
 stands st tree start level aim clear block place alive =
     let p = place_in st tree start level aim clear block place in
     go p.in_tree (live_places_stand (nodes_of st.pages) (slice_index st.counted) (tree.chain level) start (is_fit aim clear) block p.place alive)
@@ -141,7 +141,7 @@ stands st tree start level aim clear block place alive =
     clash e = cc
 
     go : level ≤ tree.meta.level → IsFitOn (nodes_of st.pages) first_context (tree.chain level) (is_fit aim clear) block
-        → ((nodes_of st.pages block).state ≡ Deleted) ⊎ (((nodes_of st.pages block).level ≡ level) × IsIn block (tree.chain level)) → Stands st tree level (is_fit aim clear) block
+        → ((nodes_of st.pages block).state ≡ Deleted) ⊎ (((nodes_of st.pages block).level ≡ level) × IsIn block (tree.chain level)) → StandsOnChain st tree level (is_fit aim clear) block
     go in_tree fits (inl gone) = absurd (clash (sym alive ∙ gone))
     go in_tree fits (inr on) =
         let u = tree.is.in_use level block in_tree on.1 in
@@ -194,7 +194,7 @@ unique_after pages [] h c = h
 unique_after pages (page ∷ changed) h c = unique_after (with_page pages page) changed (unique_with pages page h c.0) c.1
 
 pub lasts : (st : State) (changed : List Page) (h : HasTree st) → AreActable st.limits (length st.pages) changed
-    → (st.limits.unique ≡ true → AreUnique changed) → AreInUse changed → (Ok : ℕ → Type 0) (one : ℕ) → Ok one → ((start : ℕ) → IsStart st.running start → Ok start)
+    → (st.limits.unique ≡ true → AreUnique changed) → NoneIsDeleted changed → (Ok : ℕ → Type 0) (one : ℕ) → Ok one → ((start : ℕ) → IsStart st.running start → Ok start)
     → (root' top' : ℕ) → h.tree.meta.level ≤ top' → MetaIs (with_pages st.pages changed) root' top'
     → ((least : ℕ) → Ok least → IsTreeAgain (nodes_of st.pages) (nodes_of (with_pages st.pages changed)) (slice_index st.counted) (slice_index (after_act changed st).counted)
     (length (with_pages st.pages changed)) root' h.tree.meta.level top' h.tree.chain least)

@@ -7,22 +7,22 @@ use Rattle.tree_acts.proofs.Imports.{Items, Meta, Entries, Downlinks, Page, Live
 use Rattle.tree_acts.proofs.Imports.{entry_aim, is_fit, put_among, HasTree, IsMended, rightmost, neighbour, LeafIsSplit, IsClear}
 use Rattle.tree_acts.specs.Leaves.{IsLeafAt, LeafStays, LeafIsHalved, LeafBecomes, WasLeaf, LeafPagesStay, PagesKeepLeaves, PuttingLeaves, RemovingLeaves, LeafSplitLeaves, FinishLeaves, ParentSplitLeaves, RootSplitLeaves}
 use Rattle.tree_acts.proofs.Overlays.{page_there, page_other, page_length, pages_first, pages_second, node_there, inside}
-use Rattle.tree_acts.proofs.Lasting.{Stands, stands, fresh_free}
+use Rattle.tree_acts.proofs.Lasting.{StandsOnChain, stands, fresh_free}
 
 -- each of these pages has the property
-abbrev pub Each : (Page → Type 0) → List Page → Type 0
-Each P [] = Unit {0}
-Each P (page ∷ pages) = P page × Each P pages
+abbrev pub EachPage : (Page → Type 0) → List Page → Type 0
+EachPage P [] = Unit {0}
+EachPage P (page ∷ pages) = P page × EachPage P pages
 
 -- what stands at a block after pages were written: what stood there, or one of them
-pub record IsWritten (P : Page → Type 0) (pages : List Page) (b : ℕ) : Type 0 where
+pub record StandsAfterWrites (P : Page → Type 0) (pages : List Page) (b : ℕ) : Type 0 where
   pub page : Page
   pub is : P page
   pub block : page.block ≡ b
   pub there : slice_get pages b ≡ Some page
 
-pub written_or : (P : Page → Type 0) (limits : Format) (used : ℕ) (pages changed : List Page) (b : ℕ) → AreActable limits used changed → used ≤ length pages → Each P changed
-    → (slice_get (with_pages pages changed) b ≡ slice_get pages b) ⊎ IsWritten P (with_pages pages changed) b
+pub written_or : (P : Page → Type 0) (limits : Format) (used : ℕ) (pages changed : List Page) (b : ℕ) → AreActable limits used changed → used ≤ length pages → EachPage P changed
+    → (slice_get (with_pages pages changed) b ≡ slice_get pages b) ⊎ StandsAfterWrites P (with_pages pages changed) b
 written_or P limits used pages [] b may le each = inl refl
 written_or P limits used pages (x ∷ changed) b may le each =
     let place : x.block ≤ length pages = omega (arith, may.1.0, le) in
@@ -97,7 +97,7 @@ module _ (effect : Option Effect) (st : State) where
   was_itself pages b new same at = record { page = new; was = record { found = sym same ∙ at.found; alive = at.alive; leaf = at.leaf } }
 
   -- an act that splits no leaf
-  keeps_leaves : (changed : List Page) → AreActable st.limits (length st.pages) changed → Each (KeepsLeaf effect st) changed → LeafPagesStay effect st (after_act changed st)
+  keeps_leaves : (changed : List Page) → AreActable st.limits (length st.pages) changed → EachPage (KeepsLeaf effect st) changed → LeafPagesStay effect st (after_act changed st)
   keeps_leaves changed may each = record {
     cycle = refl;
     each = λ b old at. elim (written_or (KeepsLeaf effect st) st.limits (length st.pages) st.pages changed b may (omega arith) each) [
@@ -127,7 +127,7 @@ module _ (effect : Option Effect) (st : State) where
     still = λ h. h;
   }))
 
-  mended_keeps : (new : ℕ) (right : Option ℕ) (mended : List Page) → IsMended st new right mended → Each (KeepsLeaf effect st) mended
+  mended_keeps : (new : ℕ) (right : Option ℕ) (mended : List Page) → IsMended st new right mended → EachPage (KeepsLeaf effect st) mended
   mended_keeps new right mended rightmost = tt
   mended_keeps new right mended (neighbour {r} old after found block only) = (
     inl (record {
@@ -192,7 +192,7 @@ putting_leaves st start e page after has h = keeps_leaves (Some (Add e)) st (aft
   tt,
 )
   where
-    on : Stands st has.tree 0 (is_fit (entry_aim e) true) page.block
+    on : StandsOnChain st has.tree 0 (is_fit (entry_aim e) true) page.block
     on = stands st has.tree start 0 (entry_aim e) true page.block h.place (ap (λ (n : Node). n.state) (node_there st.pages page.block page h.found) ∙ h.alive)
 
     old_leaf : HasEntries page.items
@@ -220,7 +220,7 @@ finish_leaves st start level s p q p_after q_after new has h = keeps_leaves (Som
   (clear_keeps (Some Shape) st p p_after h.unfinished.found h.clear, tt),
 )
 
-each_append : (P : Page → Type 0) (xs : List Page) (y : Page) → Each P xs → P y → Each P (xs ++ y ∷ [])
+each_append : (P : Page → Type 0) (xs : List Page) (y : Page) → EachPage P xs → P y → EachPage P (xs ++ y ∷ [])
 each_append P [] y each one = (one, tt)
 each_append P (x ∷ xs) y each one = (each.0, each_append P xs y each.1 one)
 
@@ -260,12 +260,12 @@ root_split_leaves st start s meta meta_after p p_after root new has h = keeps_le
 abbrev IsHalfOr : State → Entry → Page → Page → Page → Type 0
 IsHalfOr st e left right x = KeepsLeaf (Some (Add e)) st x ⊎ ((x ≡ left) ⊎ (x ≡ right))
 
-either_half : (st : State) (e : Entry) (left right : Page) (xs : List Page) → Each (KeepsLeaf (Some (Add e)) st) xs → Each (IsHalfOr st e left right) xs
+either_half : (st : State) (e : Entry) (left right : Page) (xs : List Page) → EachPage (KeepsLeaf (Some (Add e)) st) xs → EachPage (IsHalfOr st e left right) xs
 either_half st e left right [] each = tt
 either_half st e left right (x ∷ xs) each = (inl each.0, either_half st e left right xs each.1)
 
 module _ (st : State) (start : ℕ) (e : Entry) (page left right : Page) (mended : List Page) (has : HasTree st) (h : LeafIsSplit st start e page left right mended) where
-  split_on : Stands st has.tree 0 (is_fit (entry_aim e) true) page.block
+  split_on : StandsOnChain st has.tree 0 (is_fit (entry_aim e) true) page.block
   split_on = stands st has.tree start 0 (entry_aim e) true page.block h.place (ap (λ (n : Node). n.state) (node_there st.pages page.block page h.found) ∙ h.alive)
 
   page_leaf : IsLeafAt st.pages page.block page
@@ -313,10 +313,10 @@ module _ (st : State) (start : ℕ) (e : Entry) (page left right : Page) (mended
     half_entries = λ x on. same_added e x _ (is_among (entries_of page.items) x) (parts x) (or_right (is_among (entries_of left.items) x) (is_among (entries_of right.items) x) on);
   }
 
-  each : Each (IsHalfOr st e left right) (left ∷ right ∷ mended)
+  each : EachPage (IsHalfOr st e left right) (left ∷ right ∷ mended)
   each = (inr (inl refl), (inr (inr refl), either_half st e left right mended (mended_keeps (Some (Add e)) st right.block page.right mended h.mends)))
 
-  written : (b : ℕ) → (slice_get (with_pages st.pages (left ∷ right ∷ mended)) b ≡ slice_get st.pages b) ⊎ IsWritten (IsHalfOr st e left right) (with_pages st.pages (left ∷ right ∷ mended)) b
+  written : (b : ℕ) → (slice_get (with_pages st.pages (left ∷ right ∷ mended)) b ≡ slice_get st.pages b) ⊎ StandsAfterWrites (IsHalfOr st e left right) (with_pages st.pages (left ∷ right ∷ mended)) b
   written b = written_or (IsHalfOr st e left right) st.limits (length st.pages) st.pages (left ∷ right ∷ mended) b h.may (omega arith) each
 
   pub splitting_leaves : LeafPagesStay (Some (Add e)) st (after_act (left ∷ right ∷ mended) st)

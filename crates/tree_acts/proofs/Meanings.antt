@@ -10,7 +10,7 @@ use Rattle.tree_acts.proofs.Imports.{InternalShows, LeafShows, FrontierShows, Pa
 use Rattle.tree_acts.proofs.Imports.{PlacesWiden, HighKeyShows, NeighbourShows, NoneIsIncomplete, StraightShows, RootCoversAll}
 use Rattle.tree_acts.proofs.Overlays.{node_there}
 use Rattle.tree_acts.proofs.Words.{place_in, cover_in, contents_held, only_leaves, same_test, trail_in}
-use Rattle.tree_acts.proofs.Lasting.{Stands, stands, deleted_in_use, right_on_chain}
+use Rattle.tree_acts.proofs.Lasting.{StandsOnChain, stands, deleted_in_use, right_on_chain}
 use Rattle.tree_acts.proofs.Finishing.{p_here, p_on, covered}
 
 meta_is : (st : State) (h : HasTree st) (meta : Page) → slice_get st.pages 0 ≡ Some meta → h.tree.meta ≡ meta
@@ -104,7 +104,7 @@ separator_shows st start level s p q new added h u found cover put =
     subst (λ (high : Option Bound). IsBetween put.bound s put.after high) (ap (λ (n : Node). n.high) here)
     (fits_at w.0 w.1 on)
   where
-    fits_at : suc level ≤ h.tree.meta.level → IsIn q.block (h.tree.chain (suc level)) → Stands st h.tree level (is_fit (bound_aim s) true) p.block
+    fits_at : suc level ≤ h.tree.meta.level → IsIn q.block (h.tree.chain (suc level)) → StandsOnChain st h.tree level (is_fit (bound_aim s) true) p.block
         → IsBetween put.bound s put.after (nodes_of st.pages q.block).high
     fits_at tall q_in on =
         separator_fits_after (nodes_of st.pages) (length st.pages) h.tree.root h.tree.meta.level h.tree.chain level p.block q.block new s added h.tree.is tall on.fits

@@ -17,7 +17,7 @@ use Rattle.vacuum.specs.declared.steps.BulkDeleteStep.TheVariants.{Going, Finish
 use Rattle.vacuum.proofs.Counting.{counts_on, counted_beyond, leaves_less, no_leaf_count}
 use Rattle.vacuum.proofs.Holding.{pinned_is_held}
 use Rattle.vacuum.proofs.Lasting.{same_page}
-use Rattle.vacuum.proofs.Removing.{does_remove, swept_may, IsLeft, is_left, gone_is, left_lives, live_is, dead_is, none_lost, dead_are}
+use Rattle.vacuum.proofs.Removing.{does_remove, swept_may, HasLivingEntries, is_left, gone_is, left_lives, live_is, dead_is, none_lost, dead_are}
 use Rattle.vacuum.proofs.Vacuuming.{IsReadOn, due_comes_on, none_is_due}
 
 runs_no_more : (b : Bool) {A : Type 0} → b ≡ false → b ≡ true → A
@@ -305,7 +305,7 @@ module _ {S : Type 0} (g : Ghosts S) (dead : Row → Bool) (before : BulkDeleteO
   abbrev stands : Page
   stands = if nat_lt 0 pruned.gone then without_dead dead page else page
 
-  left : IsLeft dead page stands
+  left : HasLivingEntries dead page stands
   left = is_left dead page alive leaf (nat_lt 0 pruned.gone) (λ h. sym lost ∙ unwritten pruned.gone h)
 
   there : (g.backing new).honest ≡ true → slice_get now.pages page.block ≡ Some stands

@@ -53,14 +53,14 @@ gone_is dead page pruned alive leaf h =
     gone ∙ ap length (sym (dead_is dead page alive leaf))
 
 -- a live leaf with those entries of the page that live
-pub record IsLeft (dead : Row → Bool) (page left : Page) : Type 0 where
+pub record HasLivingEntries (dead : Row → Bool) (page left : Page) : Type 0 where
   pub alive : left.state ≡ Live
   pub leaf : HasEntries left.items
   pub entries : entries_of left.items ≡ filter (lives dead) (entries_of page.items)
 
 -- the page is one where none is dead; else it is one when it has been written
 pub is_left : (dead : Row → Bool) (page : Page) → page.state ≡ Live → HasEntries page.items → (changed : Bool) → (changed ≡ false → length (dead_entries dead page) ≡ 0)
-    → IsLeft dead page (if changed then without_dead dead page else page)
+    → HasLivingEntries dead page (if changed then without_dead dead page else page)
 is_left dead page alive leaf true none = record { alive = alive; leaf = tt; entries = refl }
 is_left dead page alive leaf false none = record {
   alive = alive;

@@ -87,12 +87,12 @@ failed_has_none start history number e fault call meets ask ending =
     mine.end.0
 
 -- what an insert may have come to
-abbrev IsInsertAnswer : Answer → Type 0
-IsInsertAnswer (Added action unfinished) = Unit {0}
-IsInsertAnswer (Refused fault) = Unit {0}
-IsInsertAnswer answer = ⊥
+abbrev MayEndInsert : Answer → Type 0
+MayEndInsert (Added action unfinished) = Unit {0}
+MayEndInsert (Refused fault) = Unit {0}
+MayEndInsert answer = ⊥
 
-insert_may : (entry : Entry) (answer : Answer) → answer ≢ Going → MayAnswer (AskInsert entry) answer → IsInsertAnswer answer
+insert_may : (entry : Entry) (answer : Answer) → answer ≢ Going → MayAnswer (AskInsert entry) answer → MayEndInsert answer
 insert_may entry (Added action unfinished) over may = tt
 insert_may entry (Refused fault) over may = tt
 insert_may entry Going over may = absurd (over refl)
@@ -354,7 +354,7 @@ module _ {S : Type 0} (g : Ghosts S) (session least_room : ℕ) (entry : Entry) 
   abbrev no_block : StoreAndSlots S → S → Bool
   no_block old new = has_no_block session (Some (g.state old.store).begun) (g.state new)
 
-  caused : (old : StoreAndSlots S) (new : S) (answer : Answer) (added : Option ℕ) → IsInsertAnswer answer
+  caused : (old : StoreAndSlots S) (new : S) (answer : Answer) (added : Option ℕ) → MayEndInsert answer
       → ((action : ℕ) → added ≡ Some action → (fault : Fault) → IsOfEntry fault → answer ≢ Refused fault)
       → IsCaused (causes_of_asked g session least_room (Some (g.state old.store).begun) false (AskInsert entry) old new) answer
       → InsertCallIsCaused g session least_room entry old new (outcome_of answer added)
@@ -368,8 +368,8 @@ module _ {S : Type 0} (g : Ghosts S) (session least_room : ℕ) (entry : Entry) 
   caused old new answer added may apart c = absurd may
 
   may_run : (start : Entry → Bool) (x z : Moment S) (answer : Answer) (added : Option ℕ) → answer ≢ Going
-      → RequestIsRun g session least_room (ToInsert entry) answer added start x z → IsInsertAnswer answer
-  may_run start x z answer added over (inl n) = subst IsInsertAnswer (sym n.refused) tt
+      → RequestIsRun g session least_room (ToInsert entry) answer added start x z → MayEndInsert answer
+  may_run start x z answer added over (inl n) = subst MayEndInsert (sym n.refused) tt
   may_run start x z answer added over (inr r) =
       insert_may entry answer over (came_may (length x.calls) (first_call session (ToInsert entry) x) answer (with_one_call x (first_call session (ToInsert entry) x)) r.here r.told)
 

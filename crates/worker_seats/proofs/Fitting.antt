@@ -1,4 +1,4 @@
--- Each exchange of the seats' cell keeps its rule.
+-- EachViewFits exchange of the seats' cell keeps its rule.
 use Rattle.std.proofs.Common.{◌≡◌, ◌≢◌, ◌⊎◌, ◌==◌, ℕ, zero, suc, ◌+◌, List, [], ◌∷◌, ◌++◌, length, set, Option, Some, None, true, false, true≢false, refl, sym, ap, ◌∙◌, subst, inl, inr, ⊎_elim, arith, if◌then◌else◌}
 use Rattle.std.specs.Prelude.{slice_get, slice_set}
 use Rattle.std.proofs.lemmas.Bool.Decides.{nat_tests}
@@ -24,11 +24,11 @@ notes_from_snoc n w (y ∷ log) x = let h = notes_from_snoc (suc n) w log x in g
 off : false ≡ true → ⊥
 off e = true≢false (sym e)
 
-abbrev Each : ℕ → List (ℕ × ℕ) → List (Option ℕ) → List SeatView → Type 0
-Each desk log running views = (by : ℕ) (v : SeatView) → get_elem? views by ≡ some v → ViewFits desk log running by v
+abbrev EachViewFits : ℕ → List (ℕ × ℕ) → List (Option ℕ) → List SeatView → Type 0
+EachViewFits desk log running views = (by : ℕ) (v : SeatView) → get_elem? views by ≡ some v → ViewFits desk log running by v
 
 each_set : (desk : ℕ) (log : List (ℕ × ℕ)) (running : List (Option ℕ)) (views : List SeatView) (by : ℕ) (w : SeatView)
-    → ((j : ℕ) (u : SeatView) → j ≢ by → get_elem? views j ≡ some u → ViewFits desk log running j u) → ViewFits desk log running by w → Each desk log running (set views by w)
+    → ((j : ℕ) (u : SeatView) → j ≢ by → get_elem? views j ≡ some u → ViewFits desk log running j u) → ViewFits desk log running by w → EachViewFits desk log running (set views by w)
 each_set desk log running views by w others mine j u e =
     ⊎_elim
     (λ (x : (j ≡ by) × (w ≡ u)). subst (λ (y : ℕ × SeatView). ViewFits desk log running y.0 y.1) (λ i. (sym x.0 i, x.1 i)) mine)
@@ -52,8 +52,8 @@ apart_set views by w apart free i j u v ei ej su sv same =
     (at_set views by j w v ej))
     (at_set views by i w u ei)
 
-each_snoc : (desk : ℕ) (log : List (ℕ × ℕ)) (running : List (Option ℕ)) (views : List SeatView) (w : SeatView) → Each desk log running views
-    → ((j : ℕ) → ViewFits desk log running j w) → Each desk log running (views ++ w ∷ [])
+each_snoc : (desk : ℕ) (log : List (ℕ × ℕ)) (running : List (Option ℕ)) (views : List SeatView) (w : SeatView) → EachViewFits desk log running views
+    → ((j : ℕ) → ViewFits desk log running j w) → EachViewFits desk log running (views ++ w ∷ [])
 each_snoc desk log running views w each mine j u e = ⊎_elim (λ x. each j u x) (λ (x : w ≡ u). subst (ViewFits desk log running j) x (mine j)) (at_snoc views w u j e)
 
 at_end : (l : List SeatView) (a b : SeatView) (j : ℕ) → get_elem? l j ≢ some b → get_elem? (l ++ a ∷ []) j ≡ some b → j ≡ length l
@@ -95,7 +95,7 @@ own_note x job log = let h = notes_from_snoc 0 x log (x, job) in grind (arith, h
 pub begins : SeatsFit (keeper_of [] [] ∷ [])
 begins = record { desk = 0; log = []; running = []; each = one; apart = two }
   where
-    one : Each 0 [] [] (keeper_of [] [] ∷ [])
+    one : EachViewFits 0 [] [] (keeper_of [] [] ∷ [])
     one zero v e = subst (ViewFits 0 [] [] 0) (some-injective _ _ e) (record { keeper = λ _. record { desk_is = refl; log_is = refl; running_is = refl }; seat = λ c. absurd (off c) })
     one (suc pass) v e = absurd (some-ne-none v (sym e))
 
@@ -116,7 +116,7 @@ module _ (views : List SeatView) (h : SeatsFit views) (pass : ℕ) (v : SeatView
   -- where no other's seat is touched
   pub refit : (log : List (ℕ × ℕ)) (running : List (Option ℕ)) (w : SeatView)
       → ((j : ℕ) (u : SeatView) → j ≢ pass → get_elem? views j ≡ some u → u.sits ≡ true → SeatFits h.log h.running u → SeatFits log running u)
-      → ViewFits h.desk log running pass w → Each h.desk log running (set views pass w)
+      → ViewFits h.desk log running pass w → EachViewFits h.desk log running (set views pass w)
   refit log running w others mine = each_set h.desk log running views pass w
       (λ j u apart e. record { keeper = λ c. absurd (none_keeps j u apart e c); seat = λ c. others j u apart e c ((h.each j u e).seat c) })
       mine
@@ -129,7 +129,7 @@ module _ (views : List SeatView) (h : SeatsFit views) (pass : ℕ) (v : SeatView
     another : (j : ℕ) (u : SeatView) → j ≢ pass → get_elem? views j ≡ some u → u.sits ≡ true → u.worker ≢ v.worker
     another j u apart e su same = apart (h.apart j pass u v e at su sits same)
 
-    starts_each : (job : ℕ) → Each h.desk h.log (slice_set h.running v.worker (Some job)) (set views pass (after_start v job))
+    starts_each : (job : ℕ) → EachViewFits h.desk h.log (slice_set h.running v.worker (Some job)) (set views pass (after_start v job))
     starts_each job = refit h.log (slice_set h.running v.worker (Some job)) (after_start v job)
         (λ j u apart e su f. record { job_is = set_else h.running v.worker u.worker (Some job) (another j u apart e su) ∙ f.job_is; notes_is = f.notes_is })
         (record {
@@ -146,7 +146,7 @@ module _ (views : List SeatView) (h : SeatsFit views) (pass : ℕ) (v : SeatView
       apart = apart_set views pass (after_start v job) h.apart (λ j u apart e su sw. another j u apart e su);
     }
 
-    notes_each : (job : ℕ) → Each h.desk (h.log ++ (v.worker, job) ∷ []) (slice_set h.running v.worker None) (set views pass (after_note v job))
+    notes_each : (job : ℕ) → EachViewFits h.desk (h.log ++ (v.worker, job) ∷ []) (slice_set h.running v.worker None) (set views pass (after_note v job))
     notes_each job = refit (h.log ++ (v.worker, job) ∷ []) (slice_set h.running v.worker None) (after_note v job)
         (λ j u apart e su f. record {
           job_is = set_else h.running v.worker u.worker None (another j u apart e su) ∙ f.job_is;

@@ -1,14 +1,14 @@
 use Rattle.std.proofs.Common.{◌≡◌, Bool, true, subst}
 use Rattle.page_delete.proofs.Imports.{Page, IsLater, same_page, blocks_judged, IsCandidate, SiblingsAllow, SiblingsAnswer, BlocksAreInUse, LeafDies, IsSpared}
 use Rattle.page_delete.proofs.Dying.{leaf_links}
-use Rattle.page_delete.proofs.Trying.{HasRead, read_on, tried_later, tried_refused, tried_nothing, candidate_later}
+use Rattle.page_delete.proofs.Trying.{LeavesCauses, read_on, tried_later, tried_refused, tried_nothing, candidate_later}
 use Rattle.page_delete.proofs.judging.try_beside.Given.{Over}
 use Rattle.page_delete.proofs.judging.try_beside.Goals.{After-siblings_allow}
 use Rattle.page_delete.proofs.judging.try_beside.Goals as goal
 
 reads : (g : Over) (c : After-siblings_allow g)
     → ((g.S.PageStore.backing c.siblings_allow.new.store).stopped ≡ true → (g.S.PageStore.backing c.args.store.now).stopped ≡ true)
-    → (g.S.PageStore.backing c.siblings_allow.new.store).promised ≡ (g.S.PageStore.backing c.args.store.now).promised → HasRead g.S.PageStore c.args.store.now c.siblings_allow.new.store
+    → (g.S.PageStore.backing c.siblings_allow.new.store).promised ≡ (g.S.PageStore.backing c.args.store.now).promised → LeavesCauses g.S.PageStore c.args.store.now c.siblings_allow.new.store
 reads g c alive promised = read_on g.S.PageStore c.args.store.now c.siblings_allow.new.store c.siblings_allow.ensures.steps c.siblings_allow.ensures.state alive promised
     (g.met.S.PageStore.laws.follows_later _ _ (c.siblings_allow.ensures.steps _ (g.met.S.PageStore.laws.follows_same _)))
 

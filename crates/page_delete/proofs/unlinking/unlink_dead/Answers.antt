@@ -1,13 +1,13 @@
 use Rattle.std.proofs.Common.{◌≡◌, Bool, true, subst}
 use Rattle.page_delete.proofs.Imports.{IsLater, blocks_unlinked_at, IsTakenToChange, IsInUse, PageIsDeleted, IsNotDead}
-use Rattle.page_delete.proofs.Trying.{HasRead, read_on, tried_later, tried_refused, taken_later}
+use Rattle.page_delete.proofs.Trying.{LeavesCauses, read_on, tried_later, tried_refused, taken_later}
 use Rattle.page_delete.proofs.Deleting.{dead_links}
 use Rattle.page_delete.proofs.unlinking.unlink_dead.Given.{Over}
 use Rattle.page_delete.proofs.unlinking.unlink_dead.Goals.{After-take_left}
 use Rattle.page_delete.proofs.unlinking.unlink_dead.Goals as goal
 
 reads : (g : Over) (c : After-take_left g)
-    → ((g.S.PageStore.backing c.take_left.new.store).stopped ≡ true → (g.S.PageStore.backing c.args.store.now).stopped ≡ true) → HasRead g.S.PageStore c.args.store.now c.take_left.new.store
+    → ((g.S.PageStore.backing c.take_left.new.store).stopped ≡ true → (g.S.PageStore.backing c.args.store.now).stopped ≡ true) → LeavesCauses g.S.PageStore c.args.store.now c.take_left.new.store
 reads g c alive = read_on g.S.PageStore c.args.store.now c.take_left.new.store c.take_left.ensures.steps c.take_left.ensures.state alive c.take_left.ensures.promised
     (g.met.S.PageStore.laws.follows_later _ _ (c.take_left.ensures.steps _ (g.met.S.PageStore.laws.follows_same _)))
 

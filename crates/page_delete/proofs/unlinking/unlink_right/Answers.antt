@@ -1,6 +1,6 @@
 use Rattle.std.proofs.Common.{◌≡◌, Bool, true, subst}
 use Rattle.page_delete.proofs.Imports.{IsLater, blocks_unlinked_at, IsTakenToChange, IsInUse, PageIsDeleted, IsNotDead}
-use Rattle.page_delete.proofs.Trying.{HasRead, read_on, tried_later, tried_refused, taken_later, left_later}
+use Rattle.page_delete.proofs.Trying.{LeavesCauses, read_on, tried_later, tried_refused, taken_later, left_later}
 use Rattle.page_delete.proofs.Deleting.{dead_links}
 use Rattle.page_delete.proofs.unlinking.unlink_right.Given.{Over}
 use Rattle.page_delete.proofs.unlinking.unlink_right.Goals.{After-take_right}
@@ -8,7 +8,7 @@ use Rattle.page_delete.proofs.unlinking.unlink_right.Goals as goal
 
 -- after the reading
 reads : (g : Over) (c : After-take_right g)
-    → ((g.S.PageStore.backing c.take_right.new.store).stopped ≡ true → (g.S.PageStore.backing c.args.store.now).stopped ≡ true) → HasRead g.S.PageStore c.args.store.now c.take_right.new.store
+    → ((g.S.PageStore.backing c.take_right.new.store).stopped ≡ true → (g.S.PageStore.backing c.args.store.now).stopped ≡ true) → LeavesCauses g.S.PageStore c.args.store.now c.take_right.new.store
 reads g c alive = read_on g.S.PageStore c.args.store.now c.take_right.new.store c.take_right.ensures.steps c.take_right.ensures.state alive c.take_right.ensures.promised
     (g.met.S.PageStore.laws.follows_later _ _ (c.take_right.ensures.steps _ (g.met.S.PageStore.laws.follows_same _)))
 

@@ -15,11 +15,11 @@ pub returns-in-Err-clause-damaged : goal.returns-in-Err-clause-damaged
 returns-in-Err-clause-damaged g c = λ is. (c.replay.ensures.trace, λ honest. c.replay.ensures.damaged (c.in-Err.is ∙ ap Err is) honest)
 
 -- an index whose log was replayed
-abbrev Index : (g : Over) → After-bring_home g → List Page → Type 0
-Index g c pages = IsReplayed c.args.limits c.in-Ok.ensures.ok.images pages c.in-Ok.found (g.D.Device.trace c.args.device.now)
+abbrev ReplayedIndex : (g : Over) → After-bring_home g → List Page → Type 0
+ReplayedIndex g c pages = IsReplayed c.args.limits c.in-Ok.ensures.ok.images pages c.in-Ok.found (g.D.Device.trace c.args.device.now)
 
 index : (g : Over) (c : After-bring_home g) → IsTrue (g.D.Device.is_honest c.bring_home.new.device) → IsSynced (g.D.Device.trace c.args.device.now).now
-    → (pages : List Page) → RestartsTo c.args.limits (g.D.Device.trace c.args.device.now).now.seen pages → Index g c pages
+    → (pages : List Page) → RestartsTo c.args.limits (g.D.Device.trace c.args.device.now).now.seen pages → ReplayedIndex g c pages
 index g c honest firm pages restarts = record {
   firm = firm;
   restarts = restarts;
@@ -37,7 +37,7 @@ named g c =
     named_from c.args.limits c.in-Ok.found _ (g.D.Device.trace c.replay.new.device) _ c.replay.ensures.trace c.bring_home.ensures.moments
 
 -- so a crash leaves the index
-home_leaves : (g : Over) (c : After-bring_home g) (pages : List Page) → Index g c pages
+home_leaves : (g : Over) (c : After-bring_home g) (pages : List Page) → ReplayedIndex g c pages
     → AtEachMoment (CrashesToPages c.args.limits pages) (g.D.Device.trace c.args.device.now) (g.D.Device.trace c.bring_home.new.device)
 home_leaves g c pages r = goes_weaker _ _ _ (g.D.Device.trace c.bring_home.new.device) (written_leaves _ _ _ _ _ r) (named g c)
 
@@ -57,13 +57,13 @@ module _ (g : Over) (c : After-reset g) where
   found = (goal.at.After-reset g c).After-bring_home
 
   reset_index : IsTrue (g.D.Device.is_honest c.reset.new.device) → IsSynced (g.D.Device.trace c.args.device.now).now
-      → (pages : List Page) → RestartsTo c.args.limits (g.D.Device.trace c.args.device.now).now.seen pages → Index g found pages
+      → (pages : List Page) → RestartsTo c.args.limits (g.D.Device.trace c.args.device.now).now.seen pages → ReplayedIndex g found pages
   reset_index honest = index g found (subst IsTrue c.reset.ensures.honest honest)
 
   homed : AreHomed c.args.limits c.in-Ok.found (g.D.Device.trace c.bring_home.new.device).now
   homed = c.in_ok-bring_home.ensures.home
 
-  reset_leaves : (pages : List Page) → Index g found pages → AtEachMoment (CrashesToPages c.args.limits pages) (g.D.Device.trace c.args.device.now) (g.D.Device.trace c.reset.new.device)
+  reset_leaves : (pages : List Page) → ReplayedIndex g found pages → AtEachMoment (CrashesToPages c.args.limits pages) (g.D.Device.trace c.args.device.now) (g.D.Device.trace c.reset.new.device)
   reset_leaves pages r =
       goes_on _ _ (g.D.Device.trace c.bring_home.new.device) (g.D.Device.trace c.reset.new.device) (home_leaves g found pages r)
       (closed_goes _ _ _ _ _ r (g.D.Device.trace c.bring_home.new.device) (g.D.Device.trace c.reset.new.device) (named g found) homed c.reset.ensures.moments c.reset.ensures.outside)

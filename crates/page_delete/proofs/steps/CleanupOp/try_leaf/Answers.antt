@@ -1,13 +1,13 @@
 use Rattle.std.proofs.Common.{◌≡◌, ℕ, true, subst}
 use Rattle.page_delete.proofs.Imports.{IsLater, blocks_judged, CandidateAnswers, BlocksAreInUse, LeafDies, IsSpared, IsTried}
-use Rattle.page_delete.proofs.Trying.{HasRead, read_on, tried_later, tried_refused}
+use Rattle.page_delete.proofs.Trying.{LeavesCauses, read_on, tried_later, tried_refused}
 use Rattle.page_delete.proofs.steps.CleanupOp.try_leaf.Given.{Over}
 use Rattle.page_delete.proofs.steps.CleanupOp.try_leaf.Goals.{After-candidate}
 use Rattle.page_delete.proofs.steps.CleanupOp.try_leaf.Goals as goal
 
 reads : (g : Over) (c : After-candidate g)
     → ((g.S.PageStore.backing c.candidate.new.store).stopped ≡ true → (g.S.PageStore.backing c.args.store.now).stopped ≡ true)
-    → (g.S.PageStore.backing c.candidate.new.store).promised ≡ (g.S.PageStore.backing c.args.store.now).promised → HasRead g.S.PageStore c.args.store.now c.candidate.new.store
+    → (g.S.PageStore.backing c.candidate.new.store).promised ≡ (g.S.PageStore.backing c.args.store.now).promised → LeavesCauses g.S.PageStore c.args.store.now c.candidate.new.store
 reads g c alive promised = read_on g.S.PageStore c.args.store.now c.candidate.new.store c.candidate.ensures.steps c.candidate.ensures.state alive promised
     (g.met.S.PageStore.laws.follows_later _ _ (c.candidate.ensures.steps _ (g.met.S.PageStore.laws.follows_same _)))
 

@@ -1,13 +1,13 @@
 use Rattle.std.proofs.Common.{◌≡◌, ℕ, true, false, subst}
 use Rattle.page_delete.proofs.Imports.{IsLater, blocks_unlinked_at, frames_for, frames_some, IsInUse, PageIsDeleted, IsNotDead, IsTried}
-use Rattle.page_delete.proofs.Trying.{HasRead, read_on, tried_later, tried_refused}
+use Rattle.page_delete.proofs.Trying.{LeavesCauses, read_on, tried_later, tried_refused}
 use Rattle.page_delete.proofs.steps.CleanupOp.try_unlink.Given.{Over}
 use Rattle.page_delete.proofs.steps.CleanupOp.try_unlink.Goals.{After-read_exclusive}
 use Rattle.page_delete.proofs.steps.CleanupOp.try_unlink.Goals as goal
 
 reads : (g : Over) (c : After-read_exclusive g)
     → ((g.S.PageStore.backing c.read_exclusive.new.store).stopped ≡ true → (g.S.PageStore.backing c.args.store.now).stopped ≡ true)
-    → (g.S.PageStore.backing c.read_exclusive.new.store).promised ≡ (g.S.PageStore.backing c.args.store.now).promised → HasRead g.S.PageStore c.args.store.now c.read_exclusive.new.store
+    → (g.S.PageStore.backing c.read_exclusive.new.store).promised ≡ (g.S.PageStore.backing c.args.store.now).promised → LeavesCauses g.S.PageStore c.args.store.now c.read_exclusive.new.store
 reads g c alive promised = read_on g.S.PageStore c.args.store.now c.read_exclusive.new.store c.read_exclusive.ensures.steps c.read_exclusive.ensures.state alive promised
     (g.met.S.PageStore.laws.follows_later _ _ (c.read_exclusive.ensures.steps _ (g.met.S.PageStore.laws.follows_same _)))
 
