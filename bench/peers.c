@@ -3,8 +3,8 @@
  * usage: peers lmdb|sqlite FOLDER COUNT COMMIT_EVERY ascending|shuffled insert|all
  *
  * COUNT inserts of different entries with a durable commit behind every COMMIT_EVERY, then three scans in order, the
- * last behind a checkpoint if there is one, the deletion of every other entry in one transaction, and a check if there
- * is one. It prints a line for each part: its name, how many entries it was for, and how many nanoseconds it took. An
+ * last behind a checkpoint if there is one, COUNT lookups of keys in random order, the deletion of every other entry in
+ * one transaction, and a check if there is one. It prints a line for each part: its name, how many entries it was for, and how many nanoseconds it took. An
  * entry is a key of 16 bytes and a row of six, the same as in bench/src/work.rt.txt. */
 #include <lmdb.h>
 #include <sqlite3.h>
@@ -92,6 +92,27 @@ static void lmdb_scan(MDB_env *env, MDB_dbi table, uint32_t count) {
     need(seen == count, "scan");
 }
 
+/* The entry that the next lookup asks for. */
+static uint32_t next_one(uint32_t i, uint32_t count) {
+    return (uint32_t)((i * 2654435761ull) % count);
+}
+
+/* Each looks an entry up by its key alone: the first one that begins so. */
+static void lmdb_look_up(MDB_env *env, MDB_dbi table, struct work w) {
+    unsigned char bytes[ENTRY];
+    MDB_txn *transaction;
+    MDB_cursor *cursor;
+    need(!mdb_txn_begin(env, 0, MDB_RDONLY, &transaction), "begin");
+    need(!mdb_cursor_open(transaction, table, &cursor), "cursor");
+    for (uint32_t i = 0; i < w.count; i++) {
+        entry(next_one(i, w.count), w.ascending, bytes);
+        MDB_val key = {KEY, bytes}, value;
+        need(!mdb_cursor_get(cursor, &key, &value, MDB_SET_RANGE) && key.mv_size == ENTRY && !memcmp(key.mv_data, bytes, ENTRY), "lookup");
+    }
+    mdb_cursor_close(cursor);
+    mdb_txn_abort(transaction);
+}
+
 static void lmdb_delete(MDB_env *env, MDB_dbi table, struct work w) {
     unsigned char bytes[ENTRY];
     MDB_txn *transaction;
@@ -123,6 +144,9 @@ static void lmdb(struct work w) {
         start = now();
         lmdb_scan(env, table, w.count);
         tell("scan-written", w.count, start);
+        start = now();
+        lmdb_look_up(env, table, w);
+        tell("lookup", w.count, start);
         start = now();
         lmdb_delete(env, table, w);
         tell("delete", w.count / 2, start);
@@ -166,6 +190,18 @@ static void sqlite_scan(sqlite3 *db, uint32_t count) {
     need(seen == count, "scan");
 }
 
+static void sqlite_look_up(sqlite3 *db, struct work w) {
+    unsigned char bytes[ENTRY];
+    sqlite3_stmt *one = prepared(db, "select k from t where k >= ? order by k limit 1");
+    for (uint32_t i = 0; i < w.count; i++) {
+        entry(next_one(i, w.count), w.ascending, bytes);
+        sqlite3_bind_blob(one, 1, bytes, KEY, SQLITE_STATIC);
+        need(sqlite3_step(one) == SQLITE_ROW && !memcmp(sqlite3_column_blob(one, 0), bytes, ENTRY), "lookup");
+        sqlite3_reset(one);
+    }
+    sqlite3_finalize(one);
+}
+
 static void sqlite_delete(sqlite3 *db, struct work w) {
     sqlite3_stmt *one = prepared(db, "delete from t where k = ?");
     run(db, "begin");
@@ -200,6 +236,11 @@ static void sqlite(struct work w) {
         start = now();
         sqlite_scan(db, w.count);
         tell("scan-written", w.count, start);
+        run(db, "begin");
+        start = now();
+        sqlite_look_up(db, w);
+        tell("lookup", w.count, start);
+        run(db, "commit");
         start = now();
         sqlite_delete(db, w);
         tell("delete", w.count / 2, start);

@@ -78,6 +78,18 @@ static uint64_t scan_all(nardsill *index) {
     return seen;
 }
 
+/* Looks each entry up by its key, in the order of bench/peers.c. */
+static void look_up_all(nardsill *index, struct work w) {
+    unsigned char key[KEY];
+    nardsill_row row;
+    for (uint32_t i = 0; i < w.count; i++) {
+        uint32_t one = (uint32_t)((i * 2654435761ull) % w.count);
+        key_of(one, w.ascending, key);
+        need(nardsill_get(index, key, KEY, &row), "lookup");
+        need(row.block == one ? 0 : NARDSILL_MISUSE, "lookup");
+    }
+}
+
 static void delete_half(nardsill *index, uint32_t count) {
     nardsill_row *rows = malloc(sizeof *rows * (count / 2 + 1));
     need(rows ? 0 : NARDSILL_NO_MEMORY, "rows");
@@ -100,6 +112,9 @@ static void run(nardsill *index, struct work w) {
     need(nardsill_checkpoint(index, 0), "checkpoint");
     start = now();
     tell("scan-written", scan_all(index), start);
+    start = now();
+    look_up_all(index, w);
+    tell("lookup", w.count, start);
     start = now();
     delete_half(index, w.count);
     tell("delete", w.count / 2, start);

@@ -960,10 +960,14 @@ static int wait_for_scans(nardsill *index, struct vacuum *me) {
     return is_told;
 }
 
-/* Many rows take a while to be freed: that is a part of its own. */
-static void end_vacuum(nardsill *index) {
+/* Many rows take a while to be freed: that goes by parts too. */
+static void end_vacuum(nardsill *index, size_t rows) {
     let_in(index);
     ask_locked(index, (struct nardsill_ask){.what = NARDSILL_END_VACUUM});
+    for (size_t freed = 0; freed < rows; freed += ROWS) {
+        let_in(index);
+        ask_locked(index, (struct nardsill_ask){.what = NARDSILL_FREE_ROWS, .block = ROWS});
+    }
 }
 
 /* Waits for a commit that syncs. Calls that come needn't stand aside meanwhile. */
@@ -983,7 +987,7 @@ static struct outcome vacuum_locked(nardsill *index, struct vacuum *me, nardsill
         struct outcome outcome = told_by(answer);
         if (outcome.status == NARDSILL_BLOCKED && wait_for_scans(index, me)) continue;
         if (outcome.status || me->is_over) {
-            if (me->is_begun) end_vacuum(index);
+            if (me->is_begun) end_vacuum(index, me->count);
             if (!outcome.status) tell(&answer, stats);
             return outcome;
         }

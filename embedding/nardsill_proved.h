@@ -19,9 +19,10 @@ enum nardsill_what {
     NARDSILL_BEGIN_DELETE = 11, /* begins, in parts, what DELETE does; the rows are forgotten, also where it is refused */
     NARDSILL_BEGIN_VACUUM = 12, /* begins, in parts, what VACUUM does */
     NARDSILL_GO_ON = 13,        /* block: how many steps more; session: 1 where it has finished, with what DELETE tells; 0 where all were made */
-    NARDSILL_END_VACUUM = 14,   /* ends what was begun so, finished or not */
+    NARDSILL_END_VACUUM = 14,   /* ends what was begun so, finished or not; its rows are freed by FREE_ROWS, or behind the next one */
     NARDSILL_ADVANCE = 15,      /* the next part of a commit but for its last sync; number: 0 nothing waits, 1 its first sync is next, 2 its last */
-    NARDSILL_SYNC = 16          /* of a handle that was given it by nardsill_proved_share: syncs the file */
+    NARDSILL_SYNC = 16,         /* of a handle that was given it by nardsill_proved_share: syncs the file */
+    NARDSILL_FREE_ROWS = 17     /* block: how many rows of a bulk delete that has ended are freed */
 };
 
 struct nardsill_ask {

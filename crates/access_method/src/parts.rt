@@ -9,6 +9,7 @@ use crate::token::Sitter;
 use index_model::{Fault, VacuumStats};
 use page_action::PageStore;
 use session_calls::{Answer, Request};
+use std::mem;
 use whole_calls::{begin, give_up, take_steps};
 
 // What a part answers whose last step answered this.
@@ -160,13 +161,13 @@ impl<S: PageStore> Index<S> {
     }
 
     /// Ends the bulk delete or cleanup that goes on in parts: one that hasn't finished is given up, and what
-    /// it has removed stays removed. Its session is free then, and its rows are dropped. Refused with
-    /// `NoSession` (12) where none is open.
-    pub fn end_vacuum(&mut self) -> Result<(), Fault>
+    /// it has removed stays removed. Its session is free then. Hands out its rows, for the caller to free; a
+    /// cleanup has none. Refused with `NoSession` (12) if none is open.
+    pub fn end_vacuum(&mut self) -> Result<RowSet, Fault>
         ensures steps { Continues S.follows self.old.store self.new.store }
         ensures none { NoVacuumIsOpen self.old.seats → FindsNoVacuum result self.old self.new }
         ensures ended { (session : ℕ) → IsVacuumSeat self.old.seats session
-            → (result ≡ Ok tt) × VacuumIsEnded S.PageStore session self.old self.new }
+            → (result ≡ Ok self.old.rows) × VacuumIsEnded S.PageStore session self.old self.new }
     {
         let Some(at) = vacuum_seat(&self.seats) else {
             return Err(Fault::NoSession);
@@ -177,8 +178,7 @@ impl<S: PageStore> Index<S> {
             &[LentRows { rows: &self.rows }],
             at as u32,
         );
-        self.rows = RowSet::new();
         self.seats[at] = None;
-        Ok(())
+        Ok(mem::replace(&mut self.rows, RowSet::new()))
     }
 }

@@ -32,10 +32,14 @@ pub fn serve(handle: &mut Handle, ask: Ask) -> Answer
     if ask.what == 16 {
         return sync(&handle.syncer);
     }
+    if ask.what == 17 {
+        handle.spent.forget(ask.block);
+        return DONE;
+    }
     let alloc = handle.alloc;
     match &mut handle.index {
         None => refused(Fault::NoSession),
-        Some(index) => call(alloc, index, &mut handle.dead, &ask),
+        Some(index) => call(alloc, index, &mut handle.dead, &mut handle.spent, &ask),
     }
 }
 
@@ -53,7 +57,13 @@ fn sync(syncer: &Option<Syncer>) -> Answer
 }
 
 // A call of an index that is open.
-fn call(alloc: Global, index: &mut InFile, dead: &mut RowSet, ask: &Ask) -> Answer
+fn call(
+    alloc: Global,
+    index: &mut InFile,
+    dead: &mut RowSet,
+    spent: &mut RowSet,
+    ask: &Ask,
+) -> Answer
     ensures { ServesCall ⟦<Store<FileDevice<Unknown>> as PageStore>⟧ ask.now result
         index.old index.new dead.old dead.new }
 {
@@ -70,7 +80,7 @@ fn call(alloc: Global, index: &mut InFile, dead: &mut RowSet, ask: &Ask) -> Answ
         11 => begin_delete(index, dead),
         12 => begin_clean_up(index),
         13 => go_on(index, ask),
-        14 => end_vacuum(index),
+        14 => end_vacuum(index, spent),
         15 => advance(index),
         _ => refused(Fault::NoSession),
     }
@@ -273,13 +283,22 @@ fn part_answer(outcome: Result<Option<VacuumStats>, Fault>) -> Answer
     }
 }
 
-// Ends what goes on in parts.
-fn end_vacuum<S: PageStore>(index: &mut Index<S>) -> Answer
+// Ends what goes on in parts. Its rows are spent: those that were so before are freed.
+fn end_vacuum<S: PageStore>(index: &mut Index<S>, spent: &mut RowSet) -> Answer
     ensures steps { Continues S.follows index.old.store index.new.store }
     ensures means { EndsVacuum S.PageStore result index.old index.new }
     ensures quiet { result.is_durable ≡ false }
 {
-    done(index.end_vacuum())
+    done(ended(index.end_vacuum(), spent))
+}
+
+// Takes the rows of a bulk delete that has ended.
+fn ended(outcome: Result<RowSet, Fault>, spent: &mut RowSet) -> Result<(), Fault>
+    ensures ok { OnOk outcome (result ≡ Ok tt) }
+    ensures err { IfErr outcome (λ fault. result ≡ Err fault) }
+{
+    *spent = outcome?;
+    Ok(())
 }
 
 // Makes all that was done durable.

@@ -11,13 +11,14 @@ use std::alloc::Global;
 /// An index in a file.
 pub type InFile = Index<Store<FileDevice<Unknown>>>;
 
-/// An open index, or none, and the rows that a bulk delete is to take; and what syncs the file of that index,
-/// or of one that another handle has.
+/// An open index, or none, the rows that a bulk delete is to take, and those of one that has ended, until they
+/// are freed; and what syncs the file of that index, or of one that another handle has.
 #[derive(Drop)]
 pub struct Handle {
     pub alloc: Global,
     pub index: Option<InFile>,
     pub dead: RowSet,
+    pub spent: RowSet,
     pub syncer: Option<Syncer>,
 }
 
@@ -31,6 +32,7 @@ impl Handle {
             alloc,
             index: None,
             dead: RowSet::new(),
+            spent: RowSet::new(),
             syncer: None,
         }
     }

@@ -1,14 +1,14 @@
 //! Bulk deletes and cleanups of an index of one user that go on in parts, between other calls.
 
 use access_method::{Index, RowSet, ScanToken};
-use index_model::{Entry, Fault, RowAddr, VacuumStats};
+use index_model::{DeadRows, Entry, Fault, RowAddr, VacuumStats};
 use page_action::PageStore;
 use std::alloc::Global;
 use std::test::{Fail, *};
 use tests_support::dead::EACH_ROW;
 use tests_support::plain::{
     begin_bulk_delete, begin_cleanup, begin_scan, bulk_delete, clean_up, commit, end_scan,
-    end_vacuum, index_over, insert, next, vacuum,
+    end_vacuum, end_with_rows, index_over, insert, next, vacuum,
 };
 use tests_support::small::{ALL, LIMITS, entry, pages};
 
@@ -179,6 +179,33 @@ fn waits_for_a_scan<S: PageStore>(alloc: Global, index: &mut Index<S>) -> Result
     ])
 }
 
+// Which of the rows of the keys 2, 4 and 6 are in the set.
+fn even_rows(rows: &RowSet) -> Result<[bool; 3], Fault> {
+    Ok([
+        rows.is_dead(RowAddr::new(0, 2)?),
+        rows.is_dead(RowAddr::new(0, 4)?),
+        rows.is_dead(RowAddr::new(0, 6)?),
+    ])
+}
+
+// A bulk delete that is ended hands its rows out, which are forgotten little by little.
+fn hands_rows_out<S: PageStore>(alloc: Global, index: &mut Index<S>) -> Result<[bool; 4], Fault> {
+    begin_bulk_delete(index, rows(alloc, &[2, 4, 6])?)?;
+    let mut handed = end_with_rows(index)?;
+    let all = even_rows(&handed)?;
+    handed.forget(2);
+    let some = even_rows(&handed)?;
+    handed.forget(2);
+    let none = even_rows(&handed)?;
+    begin_cleanup(index)?;
+    Ok([
+        all == [true; 3],
+        some == [false, false, true],
+        none == [false; 3],
+        even_rows(&end_with_rows(index)?)? == [false; 3],
+    ])
+}
+
 // What is done with an index.
 #[derive(Clone, Copy)]
 enum Deed {
@@ -187,6 +214,7 @@ enum Deed {
     RefusesOthers,
     TakesASession,
     WaitsForAScan,
+    HandsRowsOut,
 }
 
 // Whether it is done right.
@@ -197,6 +225,7 @@ fn does<S: PageStore>(alloc: Global, index: &mut Index<S>, deed: Deed) -> bool {
         Deed::RefusesOthers => refuses_others(alloc, index) == Ok([true; 8]),
         Deed::TakesASession => takes_a_session(index) == Ok([true; 5]),
         Deed::WaitsForAScan => waits_for_a_scan(alloc, index) == Ok([true; 7]),
+        Deed::HandsRowsOut => hands_rows_out(alloc, index) == Ok([true; 4]),
     }
 }
 
@@ -233,5 +262,11 @@ fn a_vacuum_has_a_session_of_scans(rt: HostRuntime) -> Result<(), Fail> {
 #[test]
 fn a_blocked_part_is_tried_again(rt: HostRuntime) -> Result<(), Fail> {
     assert_eq!(rt; in_memory_does(rt.alloc(), Deed::WaitsForAScan), Ok(true));
+    Ok(())
+}
+
+#[test]
+fn rows_are_handed_out_and_forgotten(rt: HostRuntime) -> Result<(), Fail> {
+    assert_eq!(rt; in_memory_does(rt.alloc(), Deed::HandsRowsOut), Ok(true));
     Ok(())
 }

@@ -344,6 +344,14 @@ pub fn vacuum<S: PageStore>(
     index.vacuum(steps)
 }
 
-pub fn end_vacuum<S: PageStore>(index: &mut Index<S>) -> Result<(), Fault> {
+/// Ends it, and hands its rows out.
+pub fn end_with_rows<S: PageStore>(index: &mut Index<S>) -> Result<RowSet, Fault> {
     index.end_vacuum()
+}
+
+pub fn end_vacuum<S: PageStore>(index: &mut Index<S>) -> Result<(), Fault> {
+    match end_with_rows(index) {
+        Ok(_) => Ok(()),
+        Err(fault) => Err(fault),
+    }
 }

@@ -149,7 +149,7 @@ nardsill_proved_new_spec 𝓤 𝓛 𝓜 𝓡 wired =
     nothing ! $ move ! (1 ∷ 0 ∷ []) $ fjoin ! $ nothing ! $ fjoin ! $
     nothing ! $ move ! (2 ∷ 0 ∷ []) $ join ! $ owned ! u32 _ (uint_Makes 𝓛 w32) 1 (vint w32 1 ∷ []) (refl, lit< tt) $
     -- [the answer; the token; what is left of the parameters]
-    let v₀ : R.Denot = record { alloc = a; index = None; dead = record { rows = None }; syncer = None } in
+    let v₀ : R.Denot = record { alloc = a; index = None; dead = record { rows = None }; spent = record { rows = None }; syncer = None } in
     use0 𝓛 (raw (fact 𝓤 ((v₀.index ≡ None) × (v₀.dead.rows ≡ None)))) (fact_i 𝓤 _ (emp 𝓤) (refl, refl)) $ nothing ! $ join ! $
     use1 𝓛 (raw (ex 𝓤 (out 1 x.now))) (ex_i 𝓤 (out 1 x.now) v₀) $
     use0 𝓛 (raw (fact 𝓤 ((1 ≡ 0) ⊎ (1 ≡ 1)))) (fact_i 𝓤 _ (emp 𝓤) (inr refl)) $ join ! $ move ! (2 ∷ 3 ∷ 1 ∷ 0 ∷ []) $
