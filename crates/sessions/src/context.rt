@@ -4,8 +4,8 @@ ghost use Rattle.std.specs.Prelude.{◌≡◌, ◌<◌, ◌-◌, []};
 ghost use Rattle.crossbeam_queue.specs.Passes.{view, IsPassOf};
 ghost use Rattle.worker_seats.specs.Queue.{queue_view};
 
-use crate::door::Door;
 use crate::gate::Gate;
+use crate::signals::Signals;
 use crate::slot::Slot;
 use crate::started::Started;
 use crate::ticket::{JobList, JobTicket};
@@ -31,7 +31,7 @@ pub struct RunContext<
     pub rt: &'a R,
     queue: &'a JobQueue<JobTicket<K>>,
     pub slot: &'a Mutex<Slot<S, T, J>>,
-    pub door: &'a Door,
+    pub signals: &'a Signals,
     pub gate: &'a G,
     pub ghost list: { J.jobs ≡ K.list },
     pub ghost tickets: { queue.now.table.shared.table_id ≡ J.queue },
@@ -51,7 +51,7 @@ impl<'a, S: PageStore, T: DeadRows + Drop, J: JobsOn<S>, K: JobList, G: Gate, R:
         rt: &'a R,
         queue: &'a JobQueue<JobTicket<K>>,
         slot: &'a Mutex<Slot<S, T, J>>,
-        door: &'a Door,
+        signals: &'a Signals,
         gate: &'a G,
     ) -> RunContext<'a, S, T, J, K, G, R>
         requires list { J.jobs ≡ K.list }
@@ -61,7 +61,7 @@ impl<'a, S: PageStore, T: DeadRows + Drop, J: JobsOn<S>, K: JobList, G: Gate, R:
             rt,
             queue,
             slot,
-            door,
+            signals,
             gate,
         }
     }

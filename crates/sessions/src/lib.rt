@@ -1,13 +1,9 @@
 //! Workers that run a list of jobs on one world, whose events are done under one lock.
 #![tactic(auto)]
 
-mod baton;
-mod begun;
 mod context;
-mod crew;
-mod door;
 mod gate;
-mod hire;
+mod in_scope;
 mod limits;
 mod outcome;
 mod ready;
@@ -15,10 +11,14 @@ mod receipts;
 mod rounds;
 mod run;
 mod run_room;
+mod run_threads;
+mod signals;
 mod slot;
 mod started;
 mod ticket;
+mod turn_lock;
 mod worker;
+mod worker_thread;
 
 pub use gate::{Gate, NoGate};
 pub use outcome::{Finished, NotRun, Receipt};

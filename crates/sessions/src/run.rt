@@ -21,8 +21,8 @@ ghost use Rattle.shared_world.specs.Handed.{handed_of};
 ghost use Rattle.shared_world.specs.Kept.{KeepsAll};
 ghost use Rattle.shared_world.specs.declared.record.Record.{Record as DoneJob};
 
-use crate::begun::run_all;
 use crate::gate::Gate;
+use crate::in_scope::run_all;
 use crate::limits::refusal;
 use crate::outcome::{Finished, NotRun, Receipt};
 use crate::receipts::{make_tables, write_receipts};

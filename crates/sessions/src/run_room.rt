@@ -23,7 +23,7 @@ pub struct Room<J: Jobs + SessionGroup, K: JobList, H: Telling> {
     pub all: Share<J>,
     pub history: Vec<Record>,
     pub pending: Vec<Option<Pending>>,
-    pub staff: Vec<Worker<J, JobTicket<K>, H>>,
+    pub returned: Vec<Worker<J, JobTicket<K>, H>>,
     pub hands: Vec<H>,
     pub seats: Vec<Seat<J>>,
     pub sessions: SessionDesk<J>,
@@ -37,14 +37,14 @@ pub struct Room<J: Jobs + SessionGroup, K: JobList, H: Telling> {
     pub ghost amount: { all.amount ≡ 0 },
     pub ghost no_record: { history.items ≡ [] },
     pub ghost none_pending: { pending.items ≡ [] },
-    pub ghost no_worker: { staff.items ≡ [] },
+    pub ghost no_worker: { returned.items ≡ [] },
     pub ghost no_hand: { hands.items ≡ [] },
     pub ghost no_seat: { seats.items ≡ [] },
     pub ghost sessions_are: { view_of sessions.keeper ≡ keeper_with [] [] },
     pub ghost no_session: { session_seats.items ≡ [] },
     pub ghost for_records: { length J.jobs ≤ vec_capacity history },
     pub ghost for_pending: { J.workers ≤ vec_capacity pending },
-    pub ghost for_workers: { J.workers ≤ vec_capacity staff },
+    pub ghost for_workers: { J.workers ≤ vec_capacity returned },
     pub ghost for_hands: { J.workers ≤ vec_capacity hands },
     pub ghost for_seats: { J.workers ≤ vec_capacity seats },
     pub ghost for_sessions: { J.workers ≤ vec_capacity session_seats },
@@ -74,7 +74,7 @@ pub fn make_room<J: Jobs + SessionGroup, K: JobList, H: Telling + Drop>(
     let (book, all) = ledger;
     let history = Vec::with_capacity(alloc, jobs).ok()?;
     let pending = Vec::with_capacity(alloc, workers as usize).ok()?;
-    let staff = Vec::with_capacity(alloc, workers as usize).ok()?;
+    let returned = Vec::with_capacity(alloc, workers as usize).ok()?;
     let hands = Vec::with_capacity(alloc, workers as usize).ok()?;
     let seats = Vec::with_capacity(alloc, workers as usize).ok()?;
     let session_seats = Vec::with_capacity(alloc, workers as usize).ok()?;
@@ -85,7 +85,7 @@ pub fn make_room<J: Jobs + SessionGroup, K: JobList, H: Telling + Drop>(
         all,
         history,
         pending,
-        staff,
+        returned,
         hands,
         seats,
         sessions,

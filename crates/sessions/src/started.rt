@@ -2,8 +2,8 @@
 
 ghost use Rattle.std.specs.Prelude.{◌≡◌, ◌+◌, length};
 
-use crate::crew::Number;
 use crate::ticket::{JobList, JobTicket};
+use crate::worker_thread::Number;
 use shared_world::Jobs;
 use std::marker::PhantomData;
 use std::thread::PromisedHandle;

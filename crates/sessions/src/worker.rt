@@ -7,13 +7,13 @@ ghost use Rattle.worker_seats.specs.Seats.{known_by};
 ghost use Rattle.shared_world.specs.Jobs.{IsRoomOf};
 ghost use Rattle.shared_world.specs.Turns.{SeatMeans, SitsOn};
 
-use crate::baton::Stint;
 use crate::context::RunContext;
 use crate::gate::Gate;
 use crate::ready::is_ready;
 use crate::slot::Slot;
 use crate::started::Started;
 use crate::ticket::{JobList, JobTicket};
+use crate::turn_lock::WorkerTurn;
 use index_model::{DeadRows, Entry};
 use page_action::PageStore;
 use session_calls::Answer;
@@ -40,7 +40,7 @@ fn begin_in<S: PageStore, T: DeadRows + Drop, J: JobsOn<S>, K: JobList, G: Gate,
     ensures seat { SeatMeans job result.place (known_by seat.pass) (known_by result.seat.pass) }
 {
     let mut guard = run
-        .door
+        .signals
         .opened
         .wait_while(run.rt, run.slot.lock(run.rt), |slot| !is_ready(slot));
     let Slot::Open(shared, _) = &mut *guard else {
@@ -60,7 +60,7 @@ fn step_in<S: PageStore, T: DeadRows + Drop, J: JobsOn<S>, K: JobList, G: Gate, 
     ensures seat { SeatMeans job result.place (known_by seat.pass) (known_by result.seat.pass) }
 {
     let mut guard = run
-        .door
+        .signals
         .opened
         .wait_while(run.rt, run.slot.lock(run.rt), |slot| !is_ready(slot));
     let Slot::Open(shared, _) = &mut *guard else {
@@ -80,7 +80,7 @@ fn next_in<S: PageStore, T: DeadRows + Drop, J: JobsOn<S>, K: JobList, G: Gate, 
     ensures seat { SitsOn job (known_by seat.pass) (known_by result.pass) }
 {
     let mut guard = run
-        .door
+        .signals
         .opened
         .wait_while(run.rt, run.slot.lock(run.rt), |slot| !is_ready(slot));
     let Slot::Open(shared, _) = &mut *guard else {
@@ -103,7 +103,7 @@ fn end_in<S: PageStore, T: DeadRows + Drop, J: JobsOn<S>, K: JobList, G: Gate, R
     ensures seat { SeatMeans job result.1 (known_by seat.pass) (known_by result.0.pass) }
 {
     let mut guard = run
-        .door
+        .signals
         .opened
         .wait_while(run.rt, run.slot.lock(run.rt), |slot| !is_ready(slot));
     let Slot::Open(shared, _) = &mut *guard else {
@@ -115,7 +115,7 @@ fn end_in<S: PageStore, T: DeadRows + Drop, J: JobsOn<S>, K: JobList, G: Gate, R
 // Takes this number of entries, which are ready.
 fn take_ready<S: PageStore, T: DeadRows + Drop, J: JobsOn<S>, K: JobList, G: Gate, R: Wait>(
     run: &RunContext<S, T, J, K, G, R>,
-    stint: &mut Stint,
+    my_turn: &mut WorkerTurn,
     seat: Seat<J>,
     job: u32,
     count: u32,
@@ -127,7 +127,7 @@ fn take_ready<S: PageStore, T: DeadRows + Drop, J: JobsOn<S>, K: JobList, G: Gat
     let mut mine = seat;
     for _ in 0..count {
         mine = next_in(run, mine, job);
-        stint.go_on(run.rt, &run.door.baton);
+        my_turn.go_on(run.rt, &run.signals.turn_lock);
     }
     mine
 }
@@ -136,7 +136,7 @@ fn take_ready<S: PageStore, T: DeadRows + Drop, J: JobsOn<S>, K: JobList, G: Gat
 // full before, it is given up.
 fn turn<S: PageStore, T: DeadRows + Drop, J: JobsOn<S>, K: JobList, G: Gate, R: Wait>(
     run: &RunContext<S, T, J, K, G, R>,
-    stint: &mut Stint,
+    my_turn: &mut WorkerTurn,
     seat: Seat<J>,
     job: u32,
     asked: &Job,
@@ -157,9 +157,9 @@ fn turn<S: PageStore, T: DeadRows + Drop, J: JobsOn<S>, K: JobList, G: Gate, R: 
     let Answer::Ready(count) = answer else {
         if matches!(answer, Answer::Refused(_)) {
             // Another worker holds what it needs.
-            stint.end(run.rt, &run.door.baton);
+            my_turn.end(run.rt, &run.signals.turn_lock);
             thread::yield_now();
-            stint.begin(run.rt, &run.door.baton);
+            my_turn.begin(run.rt, &run.signals.turn_lock);
         }
         return (seat, None);
     };
@@ -170,14 +170,14 @@ fn turn<S: PageStore, T: DeadRows + Drop, J: JobsOn<S>, K: JobList, G: Gate, R: 
     if place.is_some() {
         return (seat, place);
     }
-    let seat = take_ready(run, stint, seat, job, count);
+    let seat = take_ready(run, my_turn, seat, job, count);
     (seat, None)
 }
 
 // Does a job from its beginning to its record.
 fn one_job<S: PageStore, T: DeadRows + Drop, J: JobsOn<S>, K: JobList, G: Gate, R: Wait>(
     run: &RunContext<S, T, J, K, G, R>,
-    stint: &mut Stint,
+    my_turn: &mut WorkerTurn,
     seat: Seat<J>,
     hand: &G::Hand,
     ticket: JobTicket<K>,
@@ -204,11 +204,11 @@ fn one_job<S: PageStore, T: DeadRows + Drop, J: JobsOn<S>, K: JobList, G: Gate, 
     let mut mine = seat;
     let mut at = place;
     for _ in run.rt.forever() {
-        stint.go_on(run.rt, &run.door.baton);
+        my_turn.go_on(run.rt, &run.signals.turn_lock);
         if at.is_some() {
             return mine;
         }
-        let (next, then) = turn(run, stint, mine, job, &asked);
+        let (next, then) = turn(run, my_turn, mine, job, &asked);
         mine = next;
         at = then;
     }
@@ -218,7 +218,7 @@ fn one_job<S: PageStore, T: DeadRows + Drop, J: JobsOn<S>, K: JobList, G: Gate, 
 // Tells the gate of a job. If that may wait for others, nobody waits for this worker meanwhile.
 fn tell<S: PageStore, T: DeadRows + Drop, J: JobsOn<S>, K: JobList, G: Gate, R: Wait>(
     run: &RunContext<S, T, J, K, G, R>,
-    stint: &mut Stint,
+    my_turn: &mut WorkerTurn,
     hand: &mut G::Hand,
     worker: u32,
     job: u32,
@@ -229,30 +229,31 @@ fn tell<S: PageStore, T: DeadRows + Drop, J: JobsOn<S>, K: JobList, G: Gate, R: 
         run.gate.taken(hand, worker, job);
         return;
     }
-    stint.end(run.rt, &run.door.baton);
-    run.door.rounds.end_work(run.rt);
+    my_turn.end(run.rt, &run.signals.turn_lock);
+    run.signals.rounds.end_work(run.rt);
     run.gate.taken(hand, worker, job);
-    run.door.rounds.begin_work(run.rt);
+    run.signals.rounds.begin_work(run.rt);
 }
 
-// Waits until the worker may do this job: a commit with those of its round, each other one with the baton.
+// Waits until the worker may do this job: a commit with those of its round, each other one with the turn
+// lock.
 fn wait_for<S: PageStore, T: DeadRows + Drop, J: JobsOn<S>, K: JobList, G: Gate, R: Wait>(
     run: &RunContext<S, T, J, K, G, R>,
-    stint: &mut Stint,
+    my_turn: &mut WorkerTurn,
     asked: &Job,
 ) {
-    let rounds = &run.door.rounds;
+    let rounds = &run.signals.rounds;
     match asked {
         Job::Commit => {
             let before = rounds.ask_commit(run.rt);
-            stint.end(run.rt, &run.door.baton);
+            my_turn.end(run.rt, &run.signals.turn_lock);
             rounds.begin_commit(run.rt, before);
             return;
         }
         Job::Insert(_) => rounds.begin_insert(run.rt),
         _ => rounds.end_work(run.rt),
     }
-    stint.begin(run.rt, &run.door.baton);
+    my_turn.begin(run.rt, &run.signals.turn_lock);
 }
 
 /// Does jobs until the queue was empty, once all workers have started. The gate is told of each, once, after
@@ -279,22 +280,22 @@ pub fn work<S: PageStore, T: DeadRows + Drop, J: JobsOn<S>, K: JobList, G: Gate,
     ensures told { G.Hand.told hand.new ≡ jobs_in (known_by result.0.pass).notes }
     ensures empty { KnowsAll (view result.1) [] }
 {
-    run.door.rounds.begin_work(run.rt);
-    let mut stint = Stint::new();
+    run.signals.rounds.begin_work(run.rt);
+    let mut my_turn = WorkerTurn::new();
     let mut mine = seat;
     let mut own = pass;
     for _ in run.rt.forever() {
         match run.jobs(started).pop_as::<Pops, R>(run.rt, &mut own) {
             Some(ticket) => {
-                tell(run, &mut stint, hand, mine.worker, ticket.job);
+                tell(run, &mut my_turn, hand, mine.worker, ticket.job);
                 let asked = ticket.asked;
-                wait_for(run, &mut stint, &asked);
-                mine = one_job(run, &mut stint, mine, hand, ticket);
-                run.door.rounds.after(run.rt, &asked);
+                wait_for(run, &mut my_turn, &asked);
+                mine = one_job(run, &mut my_turn, mine, hand, ticket);
+                run.signals.rounds.after(run.rt, &asked);
             }
             None => {
-                stint.end(run.rt, &run.door.baton);
-                run.door.rounds.end_work(run.rt);
+                my_turn.end(run.rt, &run.signals.turn_lock);
+                run.signals.rounds.end_work(run.rt);
                 return (mine, own);
             }
         }

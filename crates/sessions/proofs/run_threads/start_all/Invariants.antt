@@ -1,7 +1,7 @@
 use Rattle.std.proofs.Common.{◌≡◌, ◌+◌, [], ℕ, Some, IfSome, slice_get, vec_len, vec_capacity}
 use Rattle.crossbeam_queue.specs.Passes.{view, IsPassOf}
 use Rattle.sessions.proofs.Imports.{keeper_of, known_by, jobs_of, Pending}
-use Rattle.sessions.proofs.hire.start_all.Given as goal
+use Rattle.sessions.proofs.run_threads.start_all.Given as goal
 
 abbrev pub invariant-loop-w : goal.invariant-loop-w
 invariant-loop-w g l =

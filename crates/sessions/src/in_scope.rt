@@ -8,13 +8,13 @@ ghost use Rattle.sessions.specs.Finishing.{HaveTold};
 ghost use Rattle.shared_world.specs.Standing.{AreIdle, Stands};
 
 use crate::context::RunContext;
-use crate::crew::Number;
-use crate::door::Door;
 use crate::gate::Gate;
-use crate::hire::hire;
 use crate::run_room::Room;
+use crate::run_threads::run_threads;
+use crate::signals::Signals;
 use crate::slot::Slot;
 use crate::ticket::{JobList, JobTicket};
+use crate::worker_thread::Number;
 use index_model::DeadRows;
 use page_action::PageStore;
 use shared_world::{JobsOn, Record};
@@ -59,7 +59,7 @@ pub fn run_all<
     ensures told { IfOk result (λ r. HaveTold G.Hand.told J.workers r.3.items r.2.items) }
 {
     let slot: Mutex<Slot<S, T, J>> = Mutex::new(Slot::Waiting);
-    let shares = Door::new();
+    let shares = Signals::new();
     let context = RunContext::new(rt, queue, &slot, &shares, gate);
     let run = &context;
     thread::scope(
@@ -79,6 +79,6 @@ pub fn run_all<
                 J.followed J.handed J.jobs J.workers r.0 r.1 r.2.items) }
             ensures told { IfOk result
                 (λ r. HaveTold G.Hand.told J.workers r.3.items r.2.items) }
-        { hire(scope, run, world, room, handles, last) },
+        { run_threads(scope, run, world, room, handles, last) },
     )
 }

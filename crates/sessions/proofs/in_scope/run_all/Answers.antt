@@ -1,5 +1,5 @@
 use Rattle.std.proofs.Common.{rules}
-use Rattle.sessions.proofs.begun.run_all.Goals as goal
+use Rattle.sessions.proofs.in_scope.run_all.Goals as goal
 
 -- the clauses of the closure, then what may go to other threads, and what threads may share
 pub scoped-requires : goal.scoped-requires

@@ -9,12 +9,12 @@ const EVENTS: u32 = 1_024;
 #[derive(Drop)]
 struct Group {
     waiting: u32,
-    // Whether the baton was handed to one of them who hasn't taken it yet.
+    // Whether the turn lock was handed to one of them who hasn't taken it yet.
     given: bool,
 }
 
-// Who has the baton, and who waits for it. Those of one group get it first, and who comes meanwhile joins the
-// other.
+// Who has the turn lock, and who waits for it. Those of one group get it first, and who comes meanwhile joins
+// the other.
 #[derive(Drop)]
 struct Line {
     held: bool,
@@ -30,7 +30,7 @@ fn nobody() -> Group {
     }
 }
 
-// Hands the baton to one of the group, if one waits.
+// Hands the turn lock to one of the group, if one waits.
 fn give(group: &mut Group) -> bool {
     if group.waiting == 0 {
         return false;
@@ -40,22 +40,22 @@ fn give(group: &mut Group) -> bool {
     true
 }
 
-/// The baton of a run's workers. Each event is done under the one lock, so one worker at a time can go on
-/// anyway; if eight strive for the lock at each event, most of their time goes to handing it on. So a worker
-/// makes its events while it has the baton, and hands it on when it has made some in a row, is blocked, or is
+/// The turn lock of a run's workers. Each event is done under the one lock, so one worker at a time can go on
+/// anyway. If eight strive for that lock at each event, most of their time goes to handing it on. So a worker
+/// makes its events while it has the turn lock, and hands it on when it has made some in a row, is blocked, or is
 /// to wait for others. Who has waited longest gets it, except for those that came in the same while. A commit
 /// needs none.
 #[derive(Drop)]
-pub struct Baton {
+pub struct TurnLock {
     line: Mutex<Line>,
     even: Condvar,
     odd: Condvar,
 }
 
-impl Baton {
+impl TurnLock {
     /// Nobody has it.
-    pub fn new() -> Baton {
-        Baton {
+    pub fn new() -> TurnLock {
+        TurnLock {
             line: Mutex::new(Line {
                 held: false,
                 odd_is_next: false,
@@ -118,49 +118,49 @@ impl Baton {
     }
 }
 
-/// What a worker knows of the baton.
+/// What a worker knows of the turn lock.
 #[derive(Drop)]
-pub struct Stint {
+pub struct WorkerTurn {
     held: bool,
-    // How many events it makes before it hands the baton on.
+    // How many events it makes before it hands the turn lock on.
     left: u32,
 }
 
-impl Stint {
+impl WorkerTurn {
     /// The worker doesn't have it.
-    pub fn new() -> Stint {
-        Stint {
+    pub fn new() -> WorkerTurn {
+        WorkerTurn {
             held: false,
             left: 0,
         }
     }
 
-    /// Waits until the worker has the baton, if it hasn't.
-    pub fn begin<R: Wait>(&mut self, rt: &R, baton: &Baton) {
+    /// Waits until the worker has the turn lock, if it hasn't.
+    pub fn begin<R: Wait>(&mut self, rt: &R, turn_lock: &TurnLock) {
         if !self.held {
-            baton.take(rt);
+            turn_lock.take(rt);
             self.held = true;
             self.left = EVENTS;
         }
     }
 
-    /// Hands the baton on, if the worker has it.
-    pub fn end<R: Wait>(&mut self, rt: &R, baton: &Baton) {
+    /// Hands the turn lock on, if the worker has it.
+    pub fn end<R: Wait>(&mut self, rt: &R, turn_lock: &TurnLock) {
         if self.held {
-            baton.hand_on(rt);
+            turn_lock.hand_on(rt);
             self.held = false;
         }
     }
 
-    /// After an event: the baton is handed on if the worker has made its share, and waits for it again.
-    pub fn go_on<R: Wait>(&mut self, rt: &R, baton: &Baton) {
+    /// After an event: the turn lock is handed on if the worker has made its share, and waits for it again.
+    pub fn go_on<R: Wait>(&mut self, rt: &R, turn_lock: &TurnLock) {
         self.left = self.left.saturating_sub(1);
         if self.left > 0 || !self.held {
             return;
         }
-        if baton.is_wanted(rt) {
-            self.end(rt, baton);
-            self.begin(rt, baton);
+        if turn_lock.is_wanted(rt) {
+            self.end(rt, turn_lock);
+            self.begin(rt, turn_lock);
         }
         self.left = EVENTS;
     }

@@ -27,7 +27,7 @@ impl<J: Jobs, K: JobList, H: Telling> Promise<Worker<J, JobTicket<K>, H>> for Nu
 }
 
 /// A worker's thread: it waits until all have started, and works if the lock was opened.
-pub fn crew<S: PageStore, T: DeadRows + Drop, J: JobsOn<S>, K: JobList, G: Gate, R: Wait>(
+pub fn worker_thread<S: PageStore, T: DeadRows + Drop, J: JobsOn<S>, K: JobList, G: Gate, R: Wait>(
     run: &RunContext<S, T, J, K, G, R>,
     seat: Seat<J>,
     pass: QueuePass<JobTicket<K>>,
@@ -43,7 +43,7 @@ pub fn crew<S: PageStore, T: DeadRows + Drop, J: JobsOn<S>, K: JobList, G: Gate,
 {
     let started = {
         let guard = run
-            .door
+            .signals
             .opened
             .wait_while(run.rt, run.slot.lock(run.rt), |slot| is_waiting(slot));
         started_in(&*guard)

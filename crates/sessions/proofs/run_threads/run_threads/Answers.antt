@@ -2,7 +2,7 @@ use Rattle.std.proofs.Common.{List, Option, slice_get, refl, ap, ◌∙◌, sym,
 use Rattle.shared_world.specs.declared.record.Pending.{Pending}
 use Rattle.sessions.proofs.Imports.{known_by}
 use Rattle.sessions.proofs.Hiring.{none_snoc, told_of_records}
-use Rattle.sessions.proofs.hire.hire.Goals as goal
+use Rattle.sessions.proofs.run_threads.run_threads.Goals as goal
 
 pub first-shared-requires-clause-pending : goal.first-shared-requires-clause-pending
 first-shared-requires-clause-pending g c session p e =

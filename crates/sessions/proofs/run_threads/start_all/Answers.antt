@@ -2,7 +2,7 @@ use Rattle.std.proofs.Common.{◌≡◌, ◌+◌, ◌++◌, ◌∷◌, [], List,
 use Rattle.worker_seats.specs.declared.job_queue.QueueView.{QueueView}
 use Rattle.sessions.proofs.Imports.{SeatView, keeper_of, some_snoc, Pending, jobs_of}
 use Rattle.sessions.proofs.Hiring.{jobs_of_snoc, none_snoc}
-use Rattle.sessions.proofs.hire.start_all.Goals as goal
+use Rattle.sessions.proofs.run_threads.start_all.Goals as goal
 
 pub another-mine-requires-clause-two : goal.another-mine-requires-clause-two
 another-mine-requires-clause-two g c = omega (arith, c.loop-w.invariant.1.1, c.loop-w-test.true, c.requires.few)

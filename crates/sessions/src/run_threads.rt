@@ -14,7 +14,6 @@ ghost use Rattle.shared_world.specs.Standing.{AreIdle, Stands};
 ghost use Rattle.shared_world.specs.declared.record.Pending.{Pending as WaitingJob};
 
 use crate::context::RunContext;
-use crate::crew::{Number, crew};
 use crate::gate::Gate;
 use crate::ready::is_open;
 use crate::run_room::Room;
@@ -22,6 +21,7 @@ use crate::slot::Slot;
 use crate::started::{Started, all_started};
 use crate::ticket::{JobList, JobTicket};
 use crate::worker::work;
+use crate::worker_thread::{Number, worker_thread};
 use index_model::DeadRows;
 use page_action::PageStore;
 use shared_world::{Jobs, JobsOn, Pending, Record, Shared, ended, first};
@@ -38,7 +38,7 @@ fn put<S: PageStore + Drop, T: DeadRows + Drop, J: JobsOn<S>, K: JobList, G: Gat
     value: Slot<S, T, J>,
 ) {
     *run.slot.lock(run.rt) = value;
-    run.door.opened.notify_all();
+    run.signals.opened.notify_all();
 }
 
 // Takes what lies under the lock out of it.
@@ -46,7 +46,7 @@ fn take_out<S: PageStore + Drop, T: DeadRows + Drop, J: JobsOn<S>, K: JobList, G
     run: &RunContext<S, T, J, K, G, R>,
 ) -> Shared<S, T, J> {
     let mut guard = run
-        .door
+        .signals
         .opened
         .wait_while(run.rt, run.slot.lock(run.rt), |slot| !is_open(slot));
     let Slot::Open(shared, _) = mem::replace(&mut *guard, Slot::Closed) else {
@@ -112,7 +112,7 @@ fn start_all<
             requires popped { (view mine).popped ≡ [] }
             requires told { G.Hand.told hand ≡ [] }
             ensures { result.seat.worker ≡ seat.worker }
-        { crew(run, seat, mine, hand) };
+        { worker_thread(run, seat, mine, hand) };
         match scope.spawn_with(Number(w), job) {
             Ok(handle) => handles.push_reserved(handle),
             Err(_) => return false,
@@ -125,17 +125,17 @@ fn start_all<
 fn joined<J: Jobs, K: JobList, H: Telling + Drop, R: Threads>(
     rt: &R,
     handles: Vec<PromisedHandle<Worker<J, JobTicket<K>, H>, Number>>,
-    mut staff: Vec<Worker<J, JobTicket<K>, H>>,
+    mut returned: Vec<Worker<J, JobTicket<K>, H>>,
 ) -> Vec<Worker<J, JobTicket<K>, H>>
     requires ranked { (k : ℕ) → IfSome (slice_get handles.items k) (λ h. h.promise.0 ≡ k) }
-    requires staff { (staff.items ≡ []) × (vec_len handles < vec_capacity staff) }
+    requires returned { (returned.items ≡ []) × (vec_len handles < vec_capacity returned) }
     ensures len { vec_len result ≡ vec_len handles }
     ensures ranked { (k : ℕ) → IfSome (slice_get result.items k) (λ w. w.seat.worker ≡ k) }
 {
     for handle in handles {
-        staff.push_reserved(handle.join(rt));
+        returned.push_reserved(handle.join(rt));
     }
-    staff
+    returned
 }
 
 // Works as the last worker, joins the others, and works until no job is left: then the pass has every part.
@@ -146,7 +146,7 @@ fn work_out<S: PageStore, T: DeadRows + Drop, J: JobsOn<S>, K: JobList, G: Gate,
     pass: QueuePass<JobTicket<K>>,
     mut hand: G::Hand,
     handles: Vec<PromisedHandle<Worker<J, JobTicket<K>, G::Hand>, Number>>,
-    staff: Vec<Worker<J, JobTicket<K>, G::Hand>>,
+    returned: Vec<Worker<J, JobTicket<K>, G::Hand>>,
     mut seats: Vec<Seat<J>>,
     mut hands: Vec<G::Hand>,
 ) -> (Vec<Seat<J>>, QueuePass<JobTicket<K>>, Vec<G::Hand>)
@@ -158,7 +158,7 @@ fn work_out<S: PageStore, T: DeadRows + Drop, J: JobsOn<S>, K: JobList, G: Gate,
     requires parts { (view pass).parts + vec_len handles ≡ 1024 }
     requires popped { (view pass).popped ≡ [] }
     requires ranked { (k : ℕ) → IfSome (slice_get handles.items k) (λ h. h.promise.0 ≡ k) }
-    requires staff { (staff.items ≡ []) × (vec_len handles < vec_capacity staff) }
+    requires returned { (returned.items ≡ []) × (vec_len handles < vec_capacity returned) }
     requires seats { (seats.items ≡ []) × (vec_len handles < vec_capacity seats) }
     requires hands { (hands.items ≡ []) × (vec_len handles < vec_capacity hands) }
     requires told { G.Hand.told hand ≡ [] }
@@ -177,8 +177,14 @@ fn work_out<S: PageStore, T: DeadRows + Drop, J: JobsOn<S>, K: JobList, G: Gate,
         ≡ sum_over (λ s. weigh h (jobs_in (known_by s.pass).notes)) result.0.items }
 {
     let (own, mut pass) = work(run, &started, own, pass, &mut hand);
-    let staff = joined(run.rt, handles, staff);
-    gather(run.jobs(&started), &mut pass, staff, &mut seats, &mut hands);
+    let returned = joined(run.rt, handles, returned);
+    gather(
+        run.jobs(&started),
+        &mut pass,
+        returned,
+        &mut seats,
+        &mut hands,
+    );
     let (own, pass) = work(run, &started, own, pass, &mut hand);
     seats.push_reserved(own);
     hands.push_reserved(hand);
@@ -188,7 +194,7 @@ fn work_out<S: PageStore, T: DeadRows + Drop, J: JobsOn<S>, K: JobList, G: Gate,
 /// Starts a thread for each worker but the last, opens the lock when all have started, and works itself as
 /// the last worker, joins the others, and works on until no job is left. If a thread can't be started, the
 /// world is given back and nothing was run.
-pub fn hire<
+pub fn run_threads<
     's,
     E,
     S: PageStore + Drop + Send + 's,
@@ -225,7 +231,7 @@ pub fn hire<
         mut all,
         history,
         mut pending,
-        staff,
+        returned,
         hands,
         seats,
         sessions,
@@ -253,7 +259,7 @@ pub fn hire<
     put(run, Slot::Open(shared, threads.again()));
     let hand = run.gate.hand(last);
     let (seats, pass, hands) = work_out(
-        run, threads, own, pass, hand, handles, staff, seats, hands,
+        run, threads, own, pass, hand, handles, returned, seats, hands,
     );
     let shared = take_out(run);
     let (world, start, history) = ended(shared, seats, all, &pass);
