@@ -225,8 +225,8 @@ abbrev pub AnswersSync : Answer → Type 0
 AnswersSync answer = (answer.status ≡ 0) ⊎ AnswersFault Io answer ⊎ AnswersFault NoSession answer
 
 -- What is answered to a call of a handle. 10 lets it go: what is left of it owns no file, and no memory but
--- its own block, which is C's to free. 16 syncs the file that the handle was given to sync. 17 frees rows of a
--- bulk delete that has ended. A handle without an index answers no other call.
+-- its own block, which is C's to free. 16 syncs the file that the handle was given to sync. 17 frees rows of
+-- a bulk delete that has ended. A handle without an index answers no other call.
 pub record IsServed {S : Type 0} (g : Ghosts S) (ask : Ask) (answer : Answer) (old new : Option (Index S)) (dead left : RowSet) : Type 0 where
   pub let_go : ask.what ≡ 10 → (new ≡ None) × (left.rows ≡ None) × (answer.status ≡ 0)
   pub synced : ask.what ≡ 16 → AnswersSync answer × (new ≡ old) × (left ≡ dead)

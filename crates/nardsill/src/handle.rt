@@ -11,8 +11,8 @@ use std::alloc::Global;
 /// An index in a file.
 pub type InFile = Index<Store<FileDevice<Unknown>>>;
 
-/// An open index, or none, the rows that a bulk delete is to take, and those of one that has ended, until they
-/// are freed; and what syncs the file of that index, or of one that another handle has.
+/// An open index, or none; the rows that a bulk delete is to take, and those of one that has ended, until
+/// they are freed; and what syncs the file of that index, or of one that another handle has.
 #[derive(Drop)]
 pub struct Handle {
     pub alloc: Global,

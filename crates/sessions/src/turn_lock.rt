@@ -42,9 +42,9 @@ fn give(group: &mut Group) -> bool {
 
 /// The turn lock of a run's workers. Each event is done under the one lock, so one worker at a time can go on
 /// anyway. If eight strive for that lock at each event, most of their time goes to handing it on. So a worker
-/// makes its events while it has the turn lock, and hands it on when it has made some in a row, is blocked, or is
-/// to wait for others. Who has waited longest gets it, except for those that came in the same while. A commit
-/// needs none.
+/// makes its events while it has the turn lock. It hands it on when it has made some in a row, is blocked, or
+/// is to wait for others. Who has waited longest gets it, except for those that came in the same while. A
+/// commit needs none.
 #[derive(Drop)]
 pub struct TurnLock {
     line: Mutex<Line>,
