@@ -1,3 +1,4 @@
 pub mod Worlds
 pub mod Reopening
 pub mod Fresh
+pub mod Sets

@@ -6,8 +6,10 @@ mod laws;
 mod memory;
 mod opening;
 mod over_device;
+mod sets;
 mod world;
 
 pub use laws::new_indexes_are_trees;
 pub use opening::NotOpened;
+pub use sets::NotPut;
 pub use world::{NotMade, World};
