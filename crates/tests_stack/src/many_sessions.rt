@@ -11,9 +11,10 @@ use std::alloc::Global;
 use std::test::{Fail, *};
 use tests_support::dead::Blocks;
 use tests_support::plain::{
-    self, device_of, finish, give, left_by, one, open_world, page_in, put, run, stop_at, take_step,
+    self, device_of, finish, give, left_by, one, open_world, page_in, put, put_set, run, stop_at,
+    take_step,
 };
-use tests_support::small::{ALL, LEN, LIMITS, entry, made, pages};
+use tests_support::small::{ALL, LEN, LIMITS, entry, keyed, made, pages};
 use world::World;
 
 fn world(alloc: Global, sessions: u32) -> Result<World<MapStore, Blocks>, Fault> {
@@ -548,5 +549,58 @@ fn steps_are_taken_in_turns(rt: HostRuntime) -> Result<(), Fail> {
 #[test]
 fn call_is_given_up_for_its_checkpoint(rt: HostRuntime) -> Result<(), Fail> {
     assert_eq!(rt; new_does(rt.alloc(), Deed::Stops), Ok((true, LEN)));
+    Ok(())
+}
+
+// The rows of this block.
+fn block(number: u32) -> Blocks {
+    Blocks {
+        from: number,
+        to: number,
+    }
+}
+
+// What a bulk delete of the first set answers, run to its end.
+fn removed<S: PageStore>(world: &mut World<S, Blocks>) -> Result<u64, Fault> {
+    if let Answer::Refused(fault) = one(world, Event::Bulk(0, 0)) {
+        return Err(fault);
+    }
+    match finish(world, 0, 5)? {
+        Answer::Finished(stats) => Ok(stats.tuples_removed),
+        Answer::Refused(fault) => Err(fault),
+        _ => Err(Fault::PageDamaged(0)),
+    }
+}
+
+// Entries of blocks 1, 1 and 2 are deleted by one set and then by another that is put in its place. None is
+// put while a bulk delete runs, nor where there is no set.
+fn sets_change(alloc: Global) -> Result<[bool; 6], Fault> {
+    let mut sets = Vec::new(alloc);
+    if sets.push(block(1)).is_err() {
+        return Err(Fault::NoMemory);
+    }
+    let mut world = plain::world(alloc, pages(alloc, LIMITS)?, 2, sets)?;
+    for (key, of) in [(1, 1), (2, 1), (3, 2)] {
+        put(&mut world, 1, keyed(&[key], of, 7), 5)?;
+    }
+    let first = removed(&mut world)?;
+    let was = put_set(&mut world, 0, block(2))?;
+    let begun = one(&mut world, Event::Bulk(0, 0));
+    let beside = put_set(&mut world, 0, block(1)).err();
+    let nowhere = put_set(&mut world, 1, block(1)).err();
+    let finished = finish(&mut world, 0, 5)?;
+    Ok([
+        first == 2,
+        was.from == 1,
+        matches!(begun, Answer::Begun),
+        beside == Some(Fault::VacuumRunning),
+        nowhere == Some(Fault::NoSession),
+        matches!(finished, Answer::Finished(stats) if stats.tuples_removed == 1),
+    ])
+}
+
+#[test]
+fn a_set_is_put_in_the_place_of_another(rt: HostRuntime) -> Result<(), Fail> {
+    assert_eq!(rt; sets_change(rt.alloc()), Ok([true; 6]));
     Ok(())
 }

@@ -153,6 +153,18 @@ fn step<S: PageStore, T: DeadRows + Drop>(
     Ok(world.one(Event::Step(session)))
 }
 
+/// Puts another set of dead rows at this place, and answers the one that was there.
+pub fn put_set<S: PageStore, T: DeadRows + Drop>(
+    world: &mut World<S, T>,
+    at: u32,
+    set: T,
+) -> Result<T, Fault> {
+    match world.put_set(at, set) {
+        Ok(was) => Ok(was),
+        Err(not_put) => Err(not_put.fault),
+    }
+}
+
 /// A step of a session's call, with the checkpoint that may go before it.
 pub fn take_step<S: PageStore, T: DeadRows + Drop>(
     world: &mut World<S, T>,
