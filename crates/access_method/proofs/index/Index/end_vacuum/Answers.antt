@@ -1,9 +1,10 @@
-use Rattle.std.proofs.Common.{◌∷◌, [], ◌≡◌, None, refl, ◌∙◌, rules}
+use Rattle.std.proofs.Common.{◌∷◌, [], ◌≡◌, None, Ok, refl, ap, ◌∙◌, rules}
 use Rattle.access_method.proofs.Imports.{snapshot_of, slots_within, here_with, fits_with}
 use Rattle.access_method.proofs.BulkDeletions.{safe_within}
 use Rattle.access_method.proofs.Seats.{agree_over, none_runs_on}
 use Rattle.access_method.proofs.Partwise.{ended_at}
 use Rattle.access_method.specs.Rows.{is_row_in}
+use Rattle.access_method.specs.declared.rows.RowSet.{RowSet}
 use Rattle.access_method.proofs.index.Index.end_vacuum.Goals as goal
 
 pub invariant_of-self-2 : goal.invariant_of-self-2
@@ -17,11 +18,11 @@ pub returns-clause-ended : goal.returns-clause-ended
 returns-clause-ended g c session seat =
     let self = c.args.self.now in
     let same : session ≡ c.in-Some.at = self.agree.one c.in-Some.at session c.in-Some.ensures.seat seat in (
-      refl,
+      ap Ok c.replace.ensures.value,
       ended_at g.S.PageStore session c.in-Some.at same self _ (record {
         seats_is = refl;
         given_is = refl;
-        rows_are = c.new.ensures;
+        rows_are = ap (λ (rows : RowSet). rows.rows) c.replace.ensures.after ∙ c.new.ensures;
         ends = λ honest start history calls fits. (
             let own = is_row_in self.rows in
             let now = snapshot_of (slots_within self) history calls in
@@ -30,8 +31,8 @@ returns-clause-ended g c session seat =
             let none = none_runs_on self.calls.slots.items c.give_up.new.calls.slots.items self.seats c.in-Some.at self.agree c.give_up.ensures.others.others c.in-Some.ensures.seat c.give_up.ensures.over in
             record {
               ended = r;
-              fits = fits_with g.S.PageStore start behind (is_row_in c.new.result ∷ []) none r.ran.fits;
-              safe = λ keeps. safe_within g.S.PageStore start now behind (own ∷ []) (is_row_in c.new.result ∷ []) r.ran.crash keeps;
+              fits = fits_with g.S.PageStore start behind (is_row_in c.replace.new.dest ∷ []) none r.ran.fits;
+              safe = λ keeps. safe_within g.S.PageStore start now behind (own ∷ []) (is_row_in c.replace.new.dest ∷ []) r.ran.crash keeps;
             });
         made = c.give_up.ensures.made 5;
       }),
