@@ -1,6 +1,6 @@
 //! The calls of an open index.
 
-ghost use Rattle.std.specs.Prelude.{◌≡◌, ◌⊎◌, ◌≢◌, None, false, true};
+ghost use Rattle.std.specs.Prelude.{◌≡◌, ◌⊎◌, ◌≢◌, None, Ok, Err, IfErr, OnOk, false, true};
 ghost use Rattle.page_action.specs.States.{Continues};
 ghost use Rattle.schedule.specs.TheoremKinds.{Forces, Checkpoints};
 ghost use Rattle.nardsill.specs.Asking.{SpellsNoEntry, SpellsNoRange};
