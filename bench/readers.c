@@ -3,8 +3,7 @@
  * usage: readers FOLDER READERS SECONDS
  *
  * The index has 100,000 entries, and its pages are in memory. It prints, for each of the two, the lookups and the commits a second,
- * and the longest that one lookup took. If SECONDS is 0 one more thread deletes the rows of 100,000 other entries, then cleans up: it
- * prints how long each took, and the longest that one lookup took alone and beside them. */
+ * and the longest that one lookup took. */
 #include "nardsill.h"
 #include <pthread.h>
 #include <stdatomic.h>
@@ -23,8 +22,7 @@ static atomic_int is_over;
 struct thread {
     pthread_t id;
     unsigned who;
-    uint64_t calls;
-    _Atomic uint64_t longest;
+    uint64_t calls, longest;
 };
 
 static uint64_t now(void) {
@@ -98,36 +96,6 @@ static void run(unsigned readers, double seconds, int has_committer) {
     fflush(stdout);
 }
 
-/* The reader's longest lookup in this while. */
-static void tell_longest(const char *what, struct thread *reader, uint64_t begun) {
-    printf("%s: %.1f milliseconds, a lookup %.3f milliseconds at most\n", what, (double)(now() - begun) / 1e6, (double)reader->longest / 1e6);
-    reader->longest = 0;
-}
-
-static void vacuum_beside(void) {
-    static nardsill_row rows[ENTRIES];
-    unsigned char key[KEY];
-    struct thread reader = {.who = 0};
-    for (uint32_t i = 0; i < ENTRIES; i++) {
-        rows[i] = (nardsill_row){i, 3};
-        key_of(ENTRIES + i, key);
-        need(nardsill_insert(index_of_all, key, KEY, rows[i], 0), "insert");
-    }
-    need(nardsill_checkpoint(index_of_all, 0), "checkpoint");
-    if (pthread_create(&reader.id, 0, reads, &reader)) exit(1);
-    uint64_t begun = now();
-    usleep(300000);
-    tell_longest("alone", &reader, begun);
-    begun = now();
-    need(nardsill_delete_rows(index_of_all, rows, ENTRIES, 0), "delete");
-    tell_longest("bulk delete", &reader, begun);
-    begun = now();
-    need(nardsill_vacuum(index_of_all, 0), "vacuum");
-    tell_longest("cleanup", &reader, begun);
-    is_over = 1;
-    pthread_join(reader.id, 0);
-}
-
 int main(int count, char **words) {
     static const nardsill_limits limits = {sizeof limits, 50, 65536, 1 << 24, 0};
     unsigned char key[KEY];
@@ -143,8 +111,7 @@ int main(int count, char **words) {
         need(nardsill_insert(index_of_all, key, KEY, (nardsill_row){i, 1}, 0), "insert");
     }
     need(nardsill_checkpoint(index_of_all, 0), "checkpoint");
-    if (seconds == 0) vacuum_beside();
-    for (int i = 0; i < 2 && seconds > 0; i++) {
+    for (int i = 0; i < 2; i++) {
         run(readers, seconds, 0);
         run(readers, seconds, 1);
     }

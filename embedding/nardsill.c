@@ -891,7 +891,7 @@ struct vacuum {
 };
 
 /* Steps of a part, and rows that are named in one. */
-enum { PART = 64, ROWS = 1024 };
+enum { PART = 32, ROWS = 512 };
 
 /* Names some rows more. Only a vacuum names any, and only one runs. Where one is refused, those before it are forgotten. */
 static struct nardsill_answer name_some(nardsill *index, struct vacuum *me) {

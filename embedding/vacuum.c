@@ -461,7 +461,7 @@ static void beside_commits(unsigned threads) {
     committing.is_over = 1;
     for (unsigned i = 0; i < threads; i++) pthread_join(ids[i], 0);
     slowness = 0;
-    /* 800 leaves are 13 parts: between two of them each thread makes a call or two. */
+    /* 800 leaves are 25 parts: between two of them each thread makes a call or two. */
     printf("vacuum: beside %u threads that commit: %u commits\n", threads, made);
     HOLDS(made >= 2 && made < 100 * threads);
     IS(0, nardsill_close(index));
