@@ -11,7 +11,10 @@ mod reply;
 mod said;
 mod session;
 
-pub use dead::Dead;
+pub use dead::{Dead, listed};
 pub use index_file::{Left, Refusal};
+pub use line::{Line, parse};
 pub use program::{Ended, Kept, Served, ledger, refuse, refuse_words};
+pub use put::{put_entry, put_reply};
+pub use reply::{Reply, print_refused};
 pub use session::answer_lines;

@@ -1,0 +1,224 @@
+//! What each thread does: it draws a line, makes its call, and prints the answer.
+
+ghost use Rattle.std.specs.Prelude.{◌≡◌};
+ghost use Rattle.shared_index.specs.Sessions.{number_of_seat};
+
+use crate::requests::{Pause, Requests};
+use index_model::{DeadRows, Entry, Fault, Range};
+use ledger_lines::{Line, Reply, parse, put_entry, put_reply};
+use page_action::PageStore;
+use shared_index::{Client, SharedIndex, SharedSession};
+use shared_world::OriginOn;
+use std::alloc::Global;
+use std::io::{self, BufRead, Write};
+use std::sync::{Mutex, Wait};
+use std::time::Clock;
+use text_forms::first_line;
+
+/// How many entries a list holds in memory.
+const BATCH: usize = 64;
+
+/// The input and the output that threads share. Each answer begins with the number of its line.
+#[derive(Drop)]
+pub struct Desk<'a, R: Wait, I, O> {
+    rt: &'a R,
+    alloc: Global,
+    requests: Mutex<Requests<I>>,
+    out: Mutex<O>,
+    /// The line whose rows the index's set has: they are deleted before another line is drawn.
+    deletes: Option<u64>,
+}
+
+impl<'a, R: Wait + Clock, I: BufRead, O: Write> Desk<'a, R, I, O> {
+    /// Lines of this input, with their answers to this output.
+    pub fn new(rt: &'a R, alloc: Global, input: I, out: O) -> Desk<'a, R, I, O> {
+        Desk {
+            rt,
+            alloc,
+            requests: Mutex::new(Requests::new(input)),
+            out: Mutex::new(out),
+            deletes: None,
+        }
+    }
+
+    /// Why no line was drawn. Lines are drawn again.
+    pub fn resume(&mut self) -> Pause {
+        self.requests.lock(self.rt).resume()
+    }
+
+    /// The rows of this line are those of the index's set.
+    pub fn delete(&mut self, line: u64) {
+        self.deletes = Some(line);
+    }
+
+    fn draw(&self, line: &mut Vec<u8>) -> Option<u64> {
+        self.requests.lock(self.rt).draw(self.alloc, line)
+    }
+
+    // If the output failed, no line is drawn any more.
+    fn note(&self, printed: io::Result<()>) {
+        if let Err(error) = printed {
+            self.requests.lock(self.rt).fail(error);
+        }
+    }
+
+    fn print(&self, number: u64, reply: &Reply) {
+        let printed = {
+            let mut out = self.out.lock(self.rt);
+            print_line(&mut *out, number, reply)
+        };
+        self.note(printed);
+    }
+
+    fn print_all(&self, number: u64, entries: &[Entry]) {
+        let printed = {
+            let mut out = self.out.lock(self.rt);
+            print_entries(&mut *out, number, entries)
+        };
+        self.note(printed);
+    }
+
+    // Makes the call of a line, and answers it. A list prints its entries before.
+    fn call<S: PageStore, T: DeadRows + Drop, J: OriginOn<S>>(
+        &self,
+        index: &SharedIndex<S, T, J>,
+        session: &mut SharedSession<J>,
+        number: u64,
+        text: &[u8],
+    ) -> Reply
+        ensures { number_of_seat session.new.seat ≡ number_of_seat session.old.seat }
+    {
+        let line = match parse(text) {
+            Some(Ok(line)) => line,
+            Some(Err(fault)) => return Reply::Refused(fault),
+            None => return Reply::NotALine,
+        };
+        match line {
+            Line::Insert(entry) => told(session.insert(self.rt, index, entry), |inserted| {
+                Reply::Added(inserted)
+            }),
+            Line::Delete(_) => Reply::Refused(Fault::NoMemory),
+            Line::List(range) => self.list(index, session, number, range),
+            Line::Vacuum => told(session.clean_up(self.rt, index), |stats| {
+                Reply::CleanedUp(stats)
+            }),
+            Line::Checkpoint => told(session.checkpoint(self.rt, index), |actions| {
+                Reply::Checkpointed(actions)
+            }),
+            Line::Commit => told(session.commit(self.rt, index), |actions| {
+                Reply::Committed(actions)
+            }),
+        }
+    }
+
+    // Prints the entries of a range by batches, as a scan gives them.
+    fn list<S: PageStore, T: DeadRows + Drop, J: OriginOn<S>>(
+        &self,
+        index: &SharedIndex<S, T, J>,
+        session: &mut SharedSession<J>,
+        number: u64,
+        range: Range,
+    ) -> Reply
+        ensures { number_of_seat session.new.seat ≡ number_of_seat session.old.seat }
+    {
+        let Ok(mut entries) = Vec::with_capacity(self.alloc, BATCH) else {
+            return Reply::Refused(Fault::NoMemory);
+        };
+        if let Err(fault) = session.scan(self.rt, index, range) {
+            return Reply::Refused(fault);
+        }
+        let mut count = 0u64;
+        for _ in self.rt.forever() {
+            entries.clear();
+            let batch = session.batch(self.rt, index, &mut entries);
+            count = count.saturating_add(entries.len() as u64);
+            self.print_all(number, entries.as_slice());
+            match batch {
+                Ok(true) => return Reply::Listed(count),
+                Ok(false) => {}
+                Err(fault) => {
+                    let _left = session.leave_scan(self.rt, index);
+                    return Reply::Refused(fault);
+                }
+            }
+        }
+        unreachable!()
+    }
+
+    // Deletes the entries of the set's rows, if they are to be.
+    fn delete_first<S: PageStore, T: DeadRows + Drop, J: OriginOn<S>>(
+        &self,
+        index: &SharedIndex<S, T, J>,
+        session: &mut SharedSession<J>,
+        number: u32,
+    )
+        ensures { number_of_seat session.new.seat ≡ number_of_seat session.old.seat }
+    {
+        if number > 0 {
+            return;
+        }
+        if let Some(line) = self.deletes {
+            let reply = told(session.bulk_delete(self.rt, index, 0), |stats| {
+                Reply::Deleted(stats.tuples_removed)
+            });
+            self.print(line, &reply);
+        }
+    }
+
+    // Draws lines and answers them, until none is drawn.
+    fn serve<S: PageStore, T: DeadRows + Drop, J: OriginOn<S>>(
+        &self,
+        index: &SharedIndex<S, T, J>,
+        session: &mut SharedSession<J>,
+    )
+        ensures { number_of_seat session.new.seat ≡ number_of_seat session.old.seat }
+    {
+        let mut line = Vec::new(self.alloc);
+        for _ in self.rt.forever() {
+            let Some(number) = self.draw(&mut line) else {
+                return;
+            };
+            let reply = self.call(index, session, number, first_line(line.as_slice()).0);
+            self.print(number, &reply);
+        }
+    }
+}
+
+// What an answer is printed as.
+fn told<A, F: FnOnce(A) -> Reply>(answer: Result<A, Fault>, reply: F) -> Reply {
+    match answer {
+        Ok(answer) => reply(answer),
+        Err(fault) => Reply::Refused(fault),
+    }
+}
+
+fn print_line<O: Write>(out: &mut O, number: u64, reply: &Reply) -> io::Result<()> {
+    write!(out, "{number} ")?;
+    put_reply(out, reply)?;
+    out.flush()
+}
+
+fn print_entries<O: Write>(out: &mut O, number: u64, entries: &[Entry]) -> io::Result<()> {
+    for entry in entries {
+        write!(out, "{number} ")?;
+        put_entry(out, entry)?;
+    }
+    Ok(())
+}
+
+impl<'a, S: PageStore, T: DeadRows + Drop, R: Wait + Clock, I: BufRead, O: Write> Client<S, T>
+    for Desk<'a, R, I, O> {
+    type Out = ();
+
+    ghost learnt = { λ out calls. Unit {0} };
+
+    fn work<J: OriginOn<S>>(
+        &self,
+        index: &SharedIndex<S, T, J>,
+        session: &mut SharedSession<J>,
+        number: u32,
+    ) {
+        self.delete_first(index, session, number);
+        self.serve(index, session);
+    }
+}
