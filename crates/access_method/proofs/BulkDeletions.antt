@@ -4,10 +4,10 @@ use Rattle.std.proofs.Common.{◌≡◌, ℕ, zero, suc, ◌<◌, Bool, true, fa
 use Rattle.std.specs.Prelude.{◌&&◌, not, if◌then◌else◌, IfOk}
 use Rattle.vacuum.specs.declared.steps.BulkDeleteOp.{BulkDeleteOp}
 use Rattle.schedule.specs.TheoremCrashes.{KeepsHistory, IsCrashSafe}
-use Rattle.access_method.proofs.Imports.{cases_eq, take_all, Effect, Add, Remove, Shape, Action, said_of, later_or, last_said, contents_after, is_there_after, AskBulkDelete, Vacuumed, Call}
-use Rattle.access_method.proofs.Imports.{IsAddedIn, actions_between, IsBulkDeleteAnswer, Meets, removed_by, is_among, Row, Entry, Fault, VacuumStats, contents_after-append, there_before}
-use Rattle.access_method.proofs.Imports.{there_now, Ghosts, ended, Op, Bulk, ToBulk, OthersStay, StoreAndSlots, Moment, snapshot_of, Fits, slot_of, get_append_new, CallRuns, VacuumMeans}
-use Rattle.access_method.proofs.Imports.{Insert, Scan, Cleanup, get_some, get_within}
+use Rattle.access_method.proofs.Imports.{cases_eq, take_all, Effect, Add, Remove, Shape, Action, said_of, later_or, last_said, contents_after, is_there_after, AskBulkDelete, Vacuumed, Call, slice_get_within}
+use Rattle.access_method.proofs.Imports.{IsAddedIn, actions_between, IsBulkDeleteAnswer, Meets, removed_by, is_among, Row, Entry, Fault, VacuumStats, contents_after-append, there_before, get_append_new}
+use Rattle.access_method.proofs.Imports.{there_now, Ghosts, ended, Op, Bulk, ToBulk, OthersStay, StoreAndSlots, Moment, snapshot_of, Fits, slot_of, CallRuns, VacuumMeans}
+use Rattle.access_method.proofs.Imports.{Insert, Scan, Cleanup, get_some}
 use Rattle.schedule.proofs.Fitting.{fits_from, beyond_of, matches_of, running_of}
 use Rattle.schedule.specs.MomentInvariants.{SlotMatches, SlotRuns}
 use Rattle.session_calls.specs.BulkDeletions.{IsBulkDeleteSoFar}
@@ -217,7 +217,7 @@ module _ {S : Type 0} (g : Ghosts S) (start : Entry → Bool) (now : Moment S) (
           knows = h.runs.knows;
         };
         deletions = (
-          get_within sets set there.0 (found ∙ there.1),
+          slice_get_within sets set there.0 (found ∙ there.1),
           subst (λ (d : Row → Bool). IsBulkDeleteSoFar (g.state now.store) d start now.history h.number h.call.began op) (sym same) h.deletions.1,
         );
       }

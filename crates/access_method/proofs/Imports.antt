@@ -1,6 +1,8 @@
 -- What several proofs of this crate import, passed on from one place. Declares nothing.
-pub use Rattle.std.proofs.lemmas.Bool.{cases_eq, cases_lt, eq-eqb, eqb-true, leb-true, lt-ltb, ltb-true, ne_eqb, or_cases}
+pub use Rattle.session_calls.proofs.Lists.{get_append_new, get_set_other, get_set_same}
+pub use Rattle.std.proofs.lemmas.Bool.{cases_eq, cases_lt, eq-eqb, eqb-true, leb-true, lt-ltb, ltb-true, ne_eqb, or_cases, or_left, or_right}
 pub use Rattle.std.proofs.lemmas.List.{length-replicate, take_all, take_at}
+pub use Rattle.std.proofs.lemmas.Option.{slice_get_within}
 pub use Rattle.std.specs.Prelude.{Bool, IfErr, IfOk, IsOk, List, OnOk, [], false, is_none, true, unwrap_or, ℕ, ◌||◌}
 pub use Rattle.index_model.proofs.Histories.{contents_after-add, contents_after-append, there_before, there_now}
 pub use Rattle.index_model.specs.Actions.{Action, Add, Effect, KeysDiffer, Remove, Shape, ThereAtSomeMoment, contents_after, is_there_after, last_said, later_or, said_of}
@@ -32,7 +34,7 @@ pub use Rattle.session_calls.specs.declared.answer.Answer.TheVariants.{Added, Be
 pub use Rattle.session_calls.specs.declared.op.Op.{Op}
 pub use Rattle.session_calls.specs.declared.op.Op.TheVariants.{Bulk, Cleanup, Insert, Scan}
 pub use Rattle.session_calls.specs.declared.request.Request.TheVariants.{Bulk as ToBulk, Cleanup as ToCleanup, Insert as ToInsert, Scan as ToScan}
-pub use Rattle.schedule.proofs.Lists.{get_append_new, get_set_other, get_set_same, get_some, get_within, same_some}
+pub use Rattle.schedule.proofs.Lists.{get_some, same_some}
 pub use Rattle.schedule.proofs.Running.{makes_runs}
 pub use Rattle.schedule.proofs.Unused.{empty_at, fits_with, in_replicate, no_set_runs, unused_fits, unused_keeps}
 pub use Rattle.schedule.specs.Events.{AnswersUpkeep, IsOfSession, OthersStay, StoreIsKept, causes_of_begun_at, kept_answer}
@@ -43,8 +45,8 @@ pub use Rattle.schedule.specs.TheoremRuns.{Fits, ForEachHistory, IsRun, Runs}
 pub use Rattle.schedule.specs.declared.event.Event.{Event}
 pub use Rattle.schedule.specs.declared.event.Event.TheVariants.{Checkpoint, Force}
 pub use Rattle.whole_calls.proofs.Composing.{goes_by, goes_then}
-pub use Rattle.whole_calls.proofs.Refusing.{or_left, or_right, others_idle}
-pub use Rattle.whole_calls.proofs.Tellings.{keeps_silent, runs_has_call, true_false}
+pub use Rattle.whole_calls.proofs.Refusing.{others_idle}
+pub use Rattle.whole_calls.proofs.Tellings.{keeps_silent, runs_has_call}
 pub use Rattle.whole_calls.specs.Going.{CallIsRun, CallRuns}
 pub use Rattle.whole_calls.specs.Inserting.{InsertIsRun}
 pub use Rattle.whole_calls.specs.Meanings.{AreOwnEffects, BeginMeans, EndMeans, InsertMeans, IsSameHistory, acts_by, first_call, inserted_call, shapes}

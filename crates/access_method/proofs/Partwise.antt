@@ -1,8 +1,8 @@
 -- A bulk delete or a cleanup that goes on in parts: what a part does, what it counts, and why it is refused.
-use Rattle.std.proofs.Common.{◌≡◌, ◌≢◌, ◌||◌, ℕ, Bool, true, false, Option, Some, None, unwrap_or, Result, Ok, Err, List, [], ◌∷◌, ◌++◌, length, slice_get, refl, sym, ap, subst, inl, inr, ◌∙◌, IfErr}
+use Rattle.std.proofs.Common.{◌≡◌, ◌≢◌, ◌||◌, ℕ, Bool, true, false, true≢false, Option, Some, None, unwrap_or, Result, Ok, Err, List, [], ◌∷◌, ◌++◌, length, slice_get, refl, sym, ap, subst, inl, inr, ◌∙◌, IfErr}
 use Rattle.access_method.proofs.Imports.{Effect, Action, Ask, AskBulkDelete, AskCleanup, Call, Row, Entry, Fault, VacuumStats, Stopped, HasCause, contents_after, contents_after-append, last_said, Ghosts, Op, Insert, Scan, Bulk, Cleanup}
-use Rattle.access_method.proofs.Imports.{Answer, State, Begun, one_vacuums, Going, Finished, Refused, DeadSets, StoreAndSlots, Moment, snapshot_of, here_with, Fits, AreOwnEffects, acts_by, slot_of, slot_vacuums, CallRuns, has_failed, is_at_end, true_false}
-use Rattle.access_method.proofs.Imports.{causes_of_run, causes_of_gone, another_runs, or_cases, or_left, or_right, has_entry, slots_within, Index}
+use Rattle.access_method.proofs.Imports.{Answer, State, Begun, one_vacuums, Going, Finished, Refused, DeadSets, StoreAndSlots, Moment, snapshot_of, here_with, Fits, AreOwnEffects, acts_by, slot_of, slot_vacuums, CallRuns, has_failed, is_at_end}
+use Rattle.access_method.proofs.Imports.{causes_of_run, causes_of_gone, another_runs, or_cases, has_entry, slots_within, Index, or_left, or_right}
 use Rattle.std.specs.Prelude.{nat_le}
 use Rattle.schedule.proofs.Keeping.{Laws}
 use Rattle.schedule.specs.MomentInvariants.{here_at}
@@ -53,9 +53,9 @@ follows_begun goes honest start history calls fits what may = (goes honest start
 
 -- what a bulk delete or a cleanup may come to
 pub part_may : (sets : DeadSets) (slot : Option Op) → slot_vacuums slot ≡ true → (answer : Answer) → (answer ≢ Going → MayComeTo sets slot answer) → IsPartAnswer answer
-part_may sets None vacuums answer may = absurd (true_false (sym vacuums))
-part_may sets (Some (Insert op)) vacuums answer may = absurd (true_false (sym vacuums))
-part_may sets (Some (Scan op)) vacuums answer may = absurd (true_false (sym vacuums))
+part_may sets None vacuums answer may = absurd (true≢false (sym vacuums))
+part_may sets (Some (Insert op)) vacuums answer may = absurd (true≢false (sym vacuums))
+part_may sets (Some (Scan op)) vacuums answer may = absurd (true≢false (sym vacuums))
 part_may sets (Some op) vacuums Going may = tt
 part_may sets (Some op) vacuums (Finished stats) may = tt
 part_may sets (Some op) vacuums (Refused fault) may = tt
@@ -99,8 +99,8 @@ pub runs_some : (slots : List (Option Op)) (session : ℕ) → has_call slots se
 runs_some slots session has over = of (slice_get slots session) has over
   where
     of : (slot : Option (Option Op)) → slot_has_call slot ≡ true → unwrap_or slot None ≡ None → ⊥
-    of None has over = true_false (sym has)
-    of (Some None) has over = true_false (sym has)
+    of None has over = true≢false (sym has)
+    of (Some None) has over = true≢false (sym has)
     of (Some (Some op)) has over = (let same : Some op ≡ None = over in cc)
 
 pub cause_at : {S : Type 0} (g : Ghosts S) (session at : ℕ) → session ≡ at → (result : Result (Option VacuumStats) Fault) (old : Index S) (new : S) (calls : List Call)
@@ -164,8 +164,8 @@ asks_vacuum_of g start x fits session vacuums number call is =
     subst (λ (a : Ask). AsksVacuum a) ask (of r.0 (sym (ap (λ (o : Option (Option Op)). slot_vacuums (unwrap_or o None)) r.1) ∙ vacuums))
   where
     of : (op : Op) → slot_vacuums (Some op) ≡ true → AsksVacuum (asked_of x.sets op)
-    of (Insert op) h = absurd (true_false (sym h))
-    of (Scan op) h = absurd (true_false (sym h))
+    of (Insert op) h = absurd (true≢false (sym h))
+    of (Scan op) h = absurd (true≢false (sym h))
     of (Bulk set op) h = deletes (set_at x.sets set)
     of (Cleanup op) h = cleans
 

@@ -1,27 +1,16 @@
 -- The causes of refusals of an index's calls, and what is left of them if nothing hinders a call.
 use Rattle.latch_table.specs.Holdings.{holding_of, nothing_held}
 use Rattle.page_delete.specs.Spares.{IsAlone}
-use Rattle.std.proofs.Common.{◌≡◌, ℕ, Bool, true, false, ◌||◌, nat_lt, nat_le, Option, Some, None, Result, Ok, Err, length, slice_get, refl, sym, ap, subst, arith, inl, inr, ◌∙◌, suc, [], ◌∷◌, List, not, ◌++◌}
+use Rattle.std.proofs.Common.{◌≡◌, ℕ, Bool, true, false, true≢false, ◌||◌, nat_lt, nat_le, Option, Some, None, Result, Ok, Err, length, slice_get, refl, sym, ap, subst, arith, inl, inr, ◌∙◌, suc, [], ◌∷◌, List, not, ◌++◌}
 use Rattle.session_calls.proofs.Meeting.{other_row_so}
 use Rattle.access_method.proofs.Imports.{InsertIsRun, CallRuns, Event, IsRun, ForEachHistory, Fits, Answer, Call, Action, Op, Insert, Scan, Bulk, Cleanup, others_idle, VacuumStats, Row, is_none}
 use Rattle.access_method.proofs.Imports.{IfErr, IsOk, unwrap_or, cases_lt, or_cases, ltb-true, leb-true, eqb-true, lt-ltb, HasCause, Entry, Fault, Format, NoMemory, Io, Stopped, Blocked, Exists}
 use Rattle.access_method.proofs.Imports.{KeyTooLong, BadRow, IndexFull, LogFull, NoFrame, VacuumRunning, NoSession, SessionBusy, BadSuper, BadVersion, LogDamaged, PageDamaged, BadLimits, TooTall}
-use Rattle.access_method.proofs.Imports.{DeviceTooSmall, KeyExists, has_failed, is_at_end, other_row_is_there, Ghosts, IsFaultCaused, is_vacuum, is_busy, ToInsert, ToBulk, ToCleanup}
+use Rattle.access_method.proofs.Imports.{DeviceTooSmall, KeyExists, has_failed, is_at_end, other_row_is_there, Ghosts, IsFaultCaused, is_vacuum, is_busy, ToInsert, ToBulk, ToCleanup, or_left, or_right}
 use Rattle.access_method.proofs.Imports.{StoreAndSlots, Moment, snapshot_of, slot_of, slot_vacuums, one_vacuums, IsFreeSession, get_some, another_runs, causes_of_inserted, causes_of_called}
 use Rattle.access_method.proofs.Imports.{is_tall, InsertCallIsCaused, causes_of_gone, Inserted, slots_within, has_entry, InsertsOrKeeps, slots_with, causes_of_run, causes_of_vacuum, causes_of_aminsert}
 use Rattle.access_method.proofs.Imports.{none_is_left, InsertHasCause, NothingHinders, IsForWantOfSpace, IsOfSpace, InsertsUnhindered, Index, cases_eq}
 use Rattle.schedule.proofs.Fitting.{beyond_of, running_of}
-
-true_false : true ≡ false → ⊥
-true_false h = cc
-
-or_left : (a b : Bool) → a ≡ true → (a || b) ≡ true
-or_left true b h = refl
-or_left false b h = absurd cc
-
-or_right : (a b : Bool) → b ≡ true → (a || b) ≡ true
-or_right true b h = refl
-or_right false b h = h
 
 there_at : {S : Type 0} (old : Index S) → length old.calls.slots.items ≡ 64 → is_none (slice_get old.calls.slots.items 63) ≡ false
 there_at old slots = (let at = get_some old.calls.slots.items 63 (omega (arith, slots)) in ap is_none at.1)
@@ -46,7 +35,7 @@ module _ {S : Type 0} (g : Ghosts S) (old : Index S) (new : S) where
     | inr rest ↦ elim (or_cases failed (acted_all || false) rest) [
       | inl now ↦ or_left (had || failed) (begun_all || acted_all) (or_right had failed now)
       | inr ended ↦ or_right (had || failed) (begun_all || acted_all)
-          (or_right begun_all acted_all (elim (or_cases acted_all false ended) [ inl all ↦ all | inr no_one ↦ absurd (true_false (sym no_one)) ]))
+          (or_right begun_all acted_all (elim (or_cases acted_all false ended) [ inl all ↦ all | inr no_one ↦ absurd (true≢false (sym no_one)) ]))
     ]
   ]
 
@@ -71,8 +60,8 @@ module _ {S : Type 0} (g : Ghosts S) (old : Index S) (new : S) where
     refused_cause was_there key_was used_up tall Stopped was key h = stopped_called h
     refused_cause was_there key_was used_up tall Exists was key h = was refl
     refused_cause was_there key_was used_up tall (KeyExists row) was key h = key row refl h
-    refused_cause was_there key_was used_up tall NoSession was key h = absurd (true_false (sym h ∙ there))
-    refused_cause was_there key_was used_up tall SessionBusy was key h = absurd (true_false (sym h ∙ free))
+    refused_cause was_there key_was used_up tall NoSession was key h = absurd (true≢false (sym h ∙ there))
+    refused_cause was_there key_was used_up tall SessionBusy was key h = absurd (true≢false (sym h ∙ free))
     refused_cause was_there key_was used_up tall fault was key h = h
 
     left_cause : (used_up tall : Bool) (unfinished : Option Fault) → IsFaultCaused (causes_of_inserted g 63 5 false (λ r. false) used_up tall (slots_within old) new) unfinished
@@ -141,7 +130,7 @@ module _ {S : Type 0} (g : Ghosts S) (session : ℕ) (old : Index S) (new : S) (
   none_stopped h = elim
       (or_cases ((g.backing old.store).stopped || has_failed (g.backing old.store) (g.backing new)) (is_at_end (g.state old.store).begun || nat_le 18446744073709551615 (g.state new).acts) h) [
         | inl log ↦ elim (or_cases (g.backing old.store).stopped (has_failed (g.backing old.store) (g.backing new)) log) [
-          | inl had ↦ true_false (sym had ∙ un.alive)
+          | inl had ↦ true≢false (sym had ∙ un.alive)
           | inr now ↦ none_failed now
         ]
         | inr count ↦ elim (or_cases (is_at_end (g.state old.store).begun) (nat_le 18446744073709551615 (g.state new).acts) count) [
@@ -152,7 +141,7 @@ module _ {S : Type 0} (g : Ghosts S) (session : ℕ) (old : Index S) (new : S) (
 
   none_pinned : (another_runs old.calls.slots.items session || nat_lt (g.state new).frames 4) ≡ true → ⊥
   none_pinned h = elim (or_cases (another_runs old.calls.slots.items session) (nat_lt (g.state new).frames 4) h) [
-    | inl busy ↦ true_false (sym busy ∙ un.alone)
+    | inl busy ↦ true≢false (sym busy ∙ un.alone)
     | inr few ↦ (let k = ltb-true (g.state new).frames 4 few in let many = un.frames in omega (arith, k, many, same_frames))
   ]
 
@@ -160,25 +149,25 @@ module _ {S : Type 0} (g : Ghosts S) (session : ℕ) (old : Index S) (new : S) (
   pub run_unhindered : (fault : Fault) → HasCause (causes_of_run g session old new) fault → ⊥
   run_unhindered Io h = none_failed h
   run_unhindered Stopped h = none_stopped h
-  run_unhindered (Blocked b) h = true_false (sym h ∙ un.alone)
+  run_unhindered (Blocked b) h = true≢false (sym h ∙ un.alone)
   run_unhindered NoFrame h = none_pinned h
-  run_unhindered NoMemory h = true_false (sym h)
-  run_unhindered Exists h = true_false (sym h)
+  run_unhindered NoMemory h = true≢false (sym h)
+  run_unhindered Exists h = true≢false (sym h)
   run_unhindered KeyTooLong h = h
   run_unhindered BadRow h = h
-  run_unhindered IndexFull h = true_false (sym h)
-  run_unhindered LogFull h = true_false (sym h)
-  run_unhindered VacuumRunning h = true_false (sym h)
-  run_unhindered NoSession h = true_false (sym h)
-  run_unhindered SessionBusy h = true_false (sym h)
+  run_unhindered IndexFull h = true≢false (sym h)
+  run_unhindered LogFull h = true≢false (sym h)
+  run_unhindered VacuumRunning h = true≢false (sym h)
+  run_unhindered NoSession h = true≢false (sym h)
+  run_unhindered SessionBusy h = true≢false (sym h)
   run_unhindered BadSuper h = h
   run_unhindered BadVersion h = h
   run_unhindered LogDamaged h = h
-  run_unhindered (PageDamaged b) h = true_false (sym h)
+  run_unhindered (PageDamaged b) h = true≢false (sym h)
   run_unhindered BadLimits h = h
-  run_unhindered TooTall h = true_false (sym h)
+  run_unhindered TooTall h = true≢false (sym h)
   run_unhindered DeviceTooSmall h = h
-  run_unhindered (KeyExists row) h = true_false (sym h)
+  run_unhindered (KeyExists row) h = true≢false (sym h)
 
 -- ... of an insert
 module _ {S : Type 0} (g : Ghosts S) (entry : Entry) (old : Index S) (new : S) (un : NothingHinders g 63 old new) (same_frames : (g.state new).frames ≡ (g.state old.store).frames) where
@@ -215,7 +204,7 @@ none_vacuums (Some (Bulk set op) ∷ slots) none = absurd (none 0 (Bulk set op) 
 none_vacuums (Some (Cleanup op) ∷ slots) none = absurd (none 0 (Cleanup op) refl refl)
 
 pub calm_slots : (slots : List (Option Op)) → ((session : ℕ) → slot_vacuums (slot_of slots session) ≡ false) → one_vacuums slots ≡ false
-calm_slots slots none = none_vacuums slots (λ session op at is. true_false (sym is ∙ sym (ap (λ (o : Option (Option Op)). slot_vacuums (unwrap_or o None)) at) ∙ none session))
+calm_slots slots none = none_vacuums slots (λ session op at is. true≢false (sym is ∙ sym (ap (λ (o : Option (Option Op)). slot_vacuums (unwrap_or o None)) at) ∙ none session))
 
 -- if no open scan's call runs, nobody else holds a page
 pub all_alone : {S : Type 0} (g : Ghosts S) (start : Entry → Bool) (now : Moment S) → Fits g start now → another_runs now.slots 63 ≡ false
@@ -248,15 +237,15 @@ module _ {S : Type 0} (g : Ghosts S) (dead : Row → Bool) (old : Index S) (new 
     (slots : length old.calls.slots.items ≡ 64) where
   no_sets : (not (nat_lt 1 (length ((λ (row : Row). false) ∷ dead ∷ []))) || is_none (slice_get old.calls.slots.items 63)) ≡ true → ⊥
   no_sets h = elim (or_cases (not (nat_lt 1 (length ((λ (row : Row). false) ∷ dead ∷ [])))) (is_none (slice_get old.calls.slots.items 63)) h) [
-    | inl no_set ↦ true_false (sym no_set ∙ ap not (lt-ltb 1 2 (omega arith)))
-    | inr no_session ↦ true_false (sym no_session ∙ there_at old slots)
+    | inl no_set ↦ true≢false (sym no_set ∙ ap not (lt-ltb 1 2 (omega arith)))
+    | inr no_session ↦ true≢false (sym no_session ∙ there_at old slots)
   ]
 
   sweep_cause : (fault : Fault)
       → HasCause (causes_of_called g 63 (ToBulk 1) (slots_with dead old) (causes_of_gone g 63 5 false (slots_with dead old) new)) fault → HasCause (causes_of_vacuum g 63 old new) fault
   sweep_cause Stopped h = stopped_called g old new h
   sweep_cause NoSession h = absurd (no_sets h)
-  sweep_cause SessionBusy h = absurd (true_false (sym h ∙ ap is_busy inserts))
+  sweep_cause SessionBusy h = absurd (true≢false (sym h ∙ ap is_busy inserts))
   sweep_cause fault h = h
 
   pub swept_cause : (result : Result VacuumStats Fault)
@@ -271,8 +260,8 @@ module _ {S : Type 0} (g : Ghosts S) (old : Index S) (new : S) (inserts : slot_o
   clean_cause : (fault : Fault) → HasCause (causes_of_called g 63 ToCleanup (slots_within old) (causes_of_gone g 63 5 false (slots_within old) new)) fault
       → HasCause (causes_of_vacuum g 63 old new) fault
   clean_cause Stopped h = stopped_called g old new h
-  clean_cause NoSession h = absurd (true_false (sym h ∙ there_at old slots))
-  clean_cause SessionBusy h = absurd (true_false (sym h ∙ ap is_busy inserts))
+  clean_cause NoSession h = absurd (true≢false (sym h ∙ there_at old slots))
+  clean_cause SessionBusy h = absurd (true≢false (sym h ∙ ap is_busy inserts))
   clean_cause fault h = h
 
   pub cleaned_cause : (result : Result VacuumStats Fault)
@@ -294,5 +283,5 @@ finishes g old new (Ok x) inserts un same h = refl
 finishes g old new (Err fault) inserts un same h = absurd (run_unhindered g 63 old new un same fault (apart fault h))
   where
     apart : (f : Fault) → HasCause (causes_of_vacuum g 63 old new) f → HasCause (causes_of_run g 63 old new) f
-    apart VacuumRunning is = absurd (true_false (sym is ∙ calm_alone old.calls.slots.items inserts un.alone))
+    apart VacuumRunning is = absurd (true≢false (sym is ∙ calm_alone old.calls.slots.items inserts un.alone))
     apart f is = is

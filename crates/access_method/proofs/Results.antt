@@ -8,12 +8,12 @@ use Rattle.index_model.proofs.Ascending.{same_entry-self}
 use Rattle.whole_calls.specs.Giving.{Becomes, SessionGivenMeans, given_outcome}
 use Rattle.access_method.proofs.Refusals.{limits_stay}
 use Rattle.access_method.proofs.Imports.{IfOk, IfErr, OnOk, unwrap_or, HasCause, causes_of_forced, with_row, Answer, Begun, Going, Added, Ready, Done, Finished, Gave, Ended, Forced, Flushed}
-use Rattle.access_method.proofs.Imports.{Checkpointed, Refused, Kind, MaintainsStore, Upkeep, Forces, Flushes, Checkpoints, kind_of, kept_answer, IsOfSession, AnswersUpkeep, StoreIsKept}
+use Rattle.access_method.proofs.Imports.{Checkpointed, Refused, Kind, MaintainsStore, Upkeep, Forces, Flushes, Checkpoints, kind_of, kept_answer, IsOfSession, AnswersUpkeep, StoreIsKept, or_left, or_right}
 use Rattle.access_method.proofs.Imports.{ForEachHistory, Runs, Fits, Event, IsSameHistory, CallIsRun, goes_by, keeps_silent, take_at, length-replicate, Add, ThereAtSomeMoment, Action, KeysDiffer}
-use Rattle.access_method.proofs.Imports.{later_or, last_said, contents_after, Failed, Ask, AskInsert, AskScan, Call, Ending, Running, EndsFinished, Meets, AnswersRight, InsertMayFail}
-use Rattle.access_method.proofs.Imports.{IsScanAnswer, IsScanAnswerSoFar, end_of, same_entry, Row, Entry, Fault, Exists, KeyExists, Format, Range, contents_after-append, contents_after-add}
-use Rattle.access_method.proofs.Imports.{Ghosts, begun_call, given_one, ended, StoreAndSlots, snapshot_of, get_append_new, get_set_same, get_within, same_some, InsertMeans, inserted_call, shapes}
-use Rattle.access_method.proofs.Imports.{InsertIsRun, CallRuns, or_left, or_right, has_entry, InsertsOrKeeps, AnswersScan, Inserted}
+use Rattle.access_method.proofs.Imports.{later_or, last_said, contents_after, Failed, Ask, AskInsert, AskScan, Call, Ending, Running, EndsFinished, Meets, AnswersRight, InsertMayFail, slice_get_within}
+use Rattle.access_method.proofs.Imports.{IsScanAnswer, IsScanAnswerSoFar, end_of, same_entry, Row, Entry, Fault, Exists, KeyExists, Format, Range, contents_after-append, contents_after-add, get_append_new, get_set_same}
+use Rattle.access_method.proofs.Imports.{Ghosts, begun_call, given_one, ended, StoreAndSlots, snapshot_of, same_some, InsertMeans, inserted_call, shapes}
+use Rattle.access_method.proofs.Imports.{InsertIsRun, Moment, CallRuns, has_entry, InsertsOrKeeps, AnswersScan, Inserted}
 
 -- changes of the shape say nothing of an entry, nor do the first of them
 shapes_say : (n k m : ℕ) (e : Entry) → last_said (take m (shapes n k)) e ≡ None
@@ -138,14 +138,14 @@ pub gives_right : {S : Type 0} (g : Ghosts S) (session : ℕ) (result : Result (
 gives_right g session (Ok (Some entry)) old new start history calls r number call range running ask =
     let told : Becomes number (given_one call entry) (snapshot_of old history calls) (snapshot_of new r.then_history r.then_calls) = r.tells number call range running ask in
     let found : slice_get r.then_calls number ≡ Some (given_one call entry) = ap (λ (l : List Call). slice_get l number) told.calls_is
-    ∙ get_set_same calls number (given_one call entry) (get_within calls number call running.found) in
+    ∙ get_set_same calls number (given_one call entry) (slice_get_within calls number call running.found) in
     let meets : Meets start r.then_history number (given_one call entry) = r.ran.fits.explains.meets number (given_one call entry) found in
     subst (λ (l : List Action). IsScanAnswerSoFar start l range call.began (length l) (call.given ++ entry ∷ [])) told.history_is
     (so_far start r.then_history number call.began call.until call.ask range (call.given ++ entry ∷ []) call.added call.ending ask running.running meets.right)
 gives_right g session (Ok None) old new start history calls r number call range running ask =
     let after : Call = ended call EndsFinished (length history) in
     let told : Becomes number after (snapshot_of old history calls) (snapshot_of new r.then_history r.then_calls) = r.tells number call range running ask in
-    let found : slice_get r.then_calls number ≡ Some after = ap (λ (l : List Call). slice_get l number) told.calls_is ∙ get_set_same calls number after (get_within calls number call running.found) in
+    let found : slice_get r.then_calls number ≡ Some after = ap (λ (l : List Call). slice_get l number) told.calls_is ∙ get_set_same calls number after (slice_get_within calls number call running.found) in
     let meets : Meets start r.then_history number after = r.ran.fits.explains.meets number after found in
     subst (λ (l : List Action). IsScanAnswer start l range call.began (length history) call.given) told.history_is
     (subst (λ (a : Ask). AnswersRight start r.then_history number call.began (length history) a call.given call.added EndsFinished) ask meets.right)
@@ -242,3 +242,15 @@ pub goes_told_kept : {S : Type 0} (g : Ghosts S) (laws : Laws g) (upkeep : Upkee
     → Counts upkeep → AnswersUpkeep upkeep answer → ForEachHistory g a b (Runs g a b (event ∷ []) (answer ∷ [])) → CallIsRun g 0 IsSameHistory (upkeep_outcome upkeep result) a b
 goes_told_kept g laws upkeep event answer a b result is kind counts answers runs =
     subst (λ (r : Result ℕ Fault). CallIsRun g 0 IsSameHistory (upkeep_outcome upkeep r) a b) (sym is) (goes_kept g laws upkeep event answer a b kind (is_counted upkeep answer counts answers) runs)
+
+-- after a run of events something fits
+pub run_fits : {S : Type 0} {g : Ghosts S} {session : ℕ} {Tells : Moment S → Moment S → Type 0} {came : Option Answer} {old new : StoreAndSlots S} → CallIsRun g session Tells came old new
+    → ForEachHistory g old new (λ start history calls. (then_history : List Action) × (then_calls : List Call) × Fits g start (snapshot_of new then_history then_calls))
+run_fits goes honest start history calls fits = (let r = goes honest start history calls fits in (r.then_history, r.then_calls, r.ran.fits))
+
+-- ... also after those of an insert, whatever it came to
+pub insert_fits : {S : Type 0} (g : Ghosts S) (session : ℕ) (entry : Entry) (result : Result Inserted Fault) (old new : StoreAndSlots S) → InsertIsRun g session entry result old new
+    → ForEachHistory g old new (λ start history calls. (then_history : List Action) × (then_calls : List Call) × Fits g start (snapshot_of new then_history then_calls))
+insert_fits g session entry (Ok inserted) old new (inl goes) = run_fits goes
+insert_fits g session entry (Ok inserted) old new (inr cut) = run_fits cut.goes
+insert_fits g session entry (Err fault) old new goes = run_fits goes

@@ -16,7 +16,7 @@ use Rattle.whole_calls.specs.Meanings.{HasBegun}
 use Rattle.session_calls.specs.Sessions.{given_one}
 use Rattle.session_calls.specs.TheoremCalls.{begun_call}
 use Rattle.access_method.proofs.Imports.{Action, Answer, AskScan, Begun, Call, CallRuns, Entry, Fault, Index, IndexFits, IndexKeeps, Moment, Range, Running, ToScan, get_append_new, get_set_same}
-use Rattle.access_method.proofs.Imports.{get_within, has_entry, slots_within, snapshot_of}
+use Rattle.access_method.proofs.Imports.{has_entry, slots_within, snapshot_of, slice_get_within}
 use Rattle.access_method.specs.Scans.{AreTheMatches, BeginTheMatches, NextIs, NextsAre, Rests, ScanBegins}
 
 -- a run of events that appends no action leaves the index resting
@@ -122,7 +122,7 @@ module _ {S : Type 0} (g : Ghosts S) (laws : Laws g)
               call = given_one stands.call e;
               is = record {
                 found = ap (λ (cs : List Call). slice_get cs stands.number) means.calls_is
-                    ∙ get_set_same stands.rests.then_calls stands.number (given_one stands.call e) (get_within stands.rests.then_calls stands.number stands.call stands.is.found);
+                    ∙ get_set_same stands.rests.then_calls stands.number (given_one stands.call e) (slice_get_within stands.rests.then_calls stands.number stands.call stands.is.found);
                 session_is = stands.is.session_is;
                 running = stands.is.running;
               };

@@ -1,5 +1,5 @@
 -- Seats and slots.
-use Rattle.std.proofs.Common.{◌≡◌, ◌≢◌, ℕ, ◌<◌, Option, Some, None, unwrap_or, Ok, List, [], ◌∷◌, ◌++◌, length, get_or, slice_get, slice_set, replicate, refl, sym, ap, subst, ◌∙◌, arith, inl, inr}
+use Rattle.std.proofs.Common.{◌≡◌, ◌≢◌, ℕ, ◌<◌, Option, Some, None, unwrap_or, Ok, List, [], ◌∷◌, ◌++◌, length, get_or, slice_get, slice_set, replicate, refl, sym, ap, subst, ◌∙◌, arith, inl, inr, true≢false}
 use Rattle.std.proofs.lemmas.Option.{slice_get-get_or}
 use Rattle.page_action.specs.Contents.{entry_on_live_leaf}
 use Rattle.session_calls.proofs.RunningOn.{stays_vacuum}
@@ -7,7 +7,7 @@ use Rattle.page_codec.specs.declared.page.Page.{Page}
 use Rattle.access_method.proofs.Imports.{cases_eq, eq-eqb, ne_eqb, Action, AskScan, ◌||◌, Bool, true, false, HasCause, Fault, NoMemory, Io, Stopped, Blocked, Exists, KeyTooLong, BadRow, IndexFull}
 use Rattle.access_method.proofs.Imports.{LogFull, NoFrame, VacuumRunning, NoSession, SessionBusy, BadSuper, BadVersion, LogDamaged, PageDamaged, BadLimits, TooTall, DeviceTooSmall, KeyExists}
 use Rattle.access_method.proofs.Imports.{nothing_wrong, is_at_end, Backing, Range, Ghosts, DeadSets, begun_call, RunsOn, ToScan, Op, Moment, slot_of, slot_vacuums, OthersStay, causes_of_begun_at}
-use Rattle.access_method.proofs.Imports.{in_replicate, get_set_same, get_set_other, get_some, EndMeans, BeginMeans, true_false, Index, IndexFits, IndexKeeps, RescanMeans, SeatsAgree, Bulk}
+use Rattle.access_method.proofs.Imports.{in_replicate, get_some, EndMeans, BeginMeans, Index, IndexFits, IndexKeeps, RescanMeans, SeatsAgree, Bulk, get_set_other, get_set_same}
 use Rattle.session_calls.specs.Ops.{asks_vacuum}
 use Rattle.session_calls.specs.Slots.{is_of_sets}
 use Rattle.session_calls.specs.declared.request.Request.{Request}
@@ -44,7 +44,7 @@ seat_of_another seats session number seat within is other = rw (slice_get-get_or
 -- a token is open and not refused: its seat is not none, and not a refused one
 pub not_refused : (found : Option Seat) (seat : Seat) (number : ℕ) → found ≡ Some seat → seat.is_refused ≡ true
     → found ≡ Some (record { number = number; is_refused = false }) → ⊥
-not_refused found seat number is refused is_open = true_false (sym refused ∙ ap is_refused_in (sym is ∙ is_open))
+not_refused found seat number is refused is_open = true≢false (sym refused ∙ ap is_refused_in (sym is ∙ is_open))
   where
     is_refused_in : Option Seat → Bool
     is_refused_in None = false
@@ -99,7 +99,7 @@ module _ (old new : List (Option Op)) (seats : List (Option Sitter)) (session : 
       inserts = inserts_stay;
       free = free;
       vacuums = λ other h. elim (cases_eq other session) [
-        | inl same ↦ absurd (true_false (sym h ∙ subst (λ (n : ℕ). slot_vacuums (slot_of new n) ≡ false) (sym same) calm))
+        | inl same ↦ absurd (true≢false (sym h ∙ subst (λ (n : ℕ). slot_vacuums (slot_of new n) ≡ false) (sym same) calm))
         | inr differ ↦ get_set_other seats session other sitter differ ∙ vacuums_before other differ h
       ];
       sits = λ other h. elim (cases_eq other session) [
@@ -174,7 +174,7 @@ module _ (old new : List (Option Op)) (seats : List (Option Sitter)) (session : 
     where
       was : (b : Bool) → slot_vacuums (slot_of old session) ≡ b → slot_vacuums (slot_of new session) ≡ true → slot_vacuums (slot_of old session) ≡ true
       was true at h = at
-      was false at h = absurd (true_false (sym h ∙ runs_calm (slot_of old session) (slot_of new session) on at))
+      was false at h = absurd (true≢false (sym h ∙ runs_calm (slot_of old session) (slot_of new session) on at))
 
 -- if no vacuum is open no session runs a bulk delete
 pub none_runs : (slots : List (Option Op)) (seats : List (Option Sitter)) → SeatsAgree slots seats → NoVacuumIsOpen seats

@@ -24,7 +24,7 @@ use Rattle.session_calls.specs.TheoremCalls.{begun_call}
 use Rattle.session_calls.specs.declared.answer.Answer.{Answer}
 use Rattle.session_calls.specs.declared.request.Request.TheVariants.{Bulk as ToBulk}
 use Rattle.schedule.specs.TheoremCrashes.{KeepsHistory, IsCrashSafe}
-use Rattle.schedule.specs.TheoremRuns.{ForEachHistory, Fits}
+use Rattle.schedule.specs.TheoremRuns.{Fits}
 use Rattle.schedule.specs.TheoremMoments.{StoreAndSlots, Moment, snapshot_of, IsRunningCall}
 use Rattle.schedule.specs.TheoremKinds.{Upkeep, MaintainsStore}
 use Rattle.schedule.specs.Making.{EventEffect}
@@ -96,7 +96,13 @@ pub record IndexStays {S : Type 0} (g : Ghosts S) (old new : Index S) : Type 0 w
 
 -- if the device has kept its model up to now, this holds of whatever fitted the index before
 abbrev pub ForEachIndexHistory : {S : Type 0} → Ghosts S → Index S → Index S → ((Entry → Bool) → List Action → List Call → Type 0) → Type 0
-ForEachIndexHistory g old new goes = ForEachHistory g (slots_within old) (slots_within new) goes
+ForEachIndexHistory g old new goes =
+    (g.backing new.store).honest ≡ true → (start : Entry → Bool) (history : List Action) (calls : List Call)
+    → IndexFits g old start history calls → goes start history calls
+
+-- Something fits the index, with these contents at the start. Each call keeps that, whatever fitted before.
+abbrev pub IndexStillFits : {S : Type 0} → Ghosts S → Index S → (Entry → Bool) → List Action → List Call → Type 0
+IndexStillFits g index start history calls = (then_history : List Action) × (then_calls : List Call) × IndexFits g index start then_history then_calls
 
 -- the same, with another set of dead rows beside the index's own
 abbrev pub slots_with : {S : Type 0} → (Row → Bool) → Index S → StoreAndSlots S

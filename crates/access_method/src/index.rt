@@ -153,7 +153,7 @@ impl<S: PageStore> Index<S> {
     ghost use Rattle.whole_calls.specs.Vacuuming.{VacuumMeans, vacuum_outcome, ResultLeavesNeeded};
     ghost use Rattle.whole_calls.specs.Giving.{SessionGivenMeans, EndsUnlessGiven, RunsIfGiven, given_outcome};
     ghost use Rattle.access_method.specs.Tokens.{seat_of};
-    ghost use Rattle.access_method.specs.Indexes.{IndexFits, IndexKeeps, IndexIsRun, IndexInserts, IndexMakes, IndexIsKept, slots_with, ForEachIndexHistory, BulkDeleteRuns, SameTokens, IsNewToken, SeatBecomes, seat_with, RescanMeans, TokenAfter, InsertsOrKeeps, IsBulkDeletedOrLess, IsCleanedUp, AnswersScan, has_entry, NotOpenedFor, NotRescannedFor, cannot_begin};
+    ghost use Rattle.access_method.specs.Indexes.{IndexFits, IndexKeeps, IndexIsRun, IndexInserts, IndexMakes, IndexIsKept, slots_with, ForEachIndexHistory, IndexStillFits, BulkDeleteRuns, SameTokens, IsNewToken, SeatBecomes, seat_with, RescanMeans, TokenAfter, InsertsOrKeeps, IsBulkDeletedOrLess, IsCleanedUp, AnswersScan, has_entry, NotOpenedFor, NotRescannedFor, cannot_begin};
     ghost use Rattle.access_method.specs.Scans.{AreTheMatches, BeginTheMatches, NextIs, NextsAre, Rests, ScanBegins};
     ghost use Rattle.index_model.specs.declared.entry.Entry.{Entry as IndexEntry};
     ghost use Rattle.index_model.specs.declared.range.Range.{Range as TheRange};
@@ -195,6 +195,9 @@ impl<S: PageStore> Index<S> {
     /// finished stands in `unfinished`. Open scans stay as they are.
     pub fn aminsert(&mut self, entry: Entry) -> Result<Inserted, Fault>
         ensures steps { Continues S.follows self.old.store self.new.store }
+        // Whatever fitted before, something fits after.
+        ensures fits { ForEachIndexHistory S.PageStore self.old self.new
+            (IndexStillFits S.PageStore self.new) }
         ensures runs { IndexInserts S.PageStore 63 entry result self.old self.new }
         // Whatever the pages are.
         ensures made { IndexMakes S.PageStore 63 (InsertComesTo result) self.old self.new }
@@ -227,6 +230,9 @@ impl<S: PageStore> Index<S> {
     /// gone.
     pub fn ambulkdelete<T: DeadRows>(&mut self, dead: &T) -> Result<VacuumStats, Fault>
         ensures steps { Continues S.follows self.old.store self.new.store }
+        // Whatever fitted before, something fits after.
+        ensures fits { ForEachIndexHistory S.PageStore self.old self.new
+            (IndexStillFits S.PageStore self.new) }
         ensures deletions { ForEachIndexHistory S.PageStore self.old self.new
             (BulkDeleteRuns S.PageStore (T.is_in dead.now) result self.old self.new) }
         // Whatever the pages are.
@@ -261,6 +267,9 @@ impl<S: PageStore> Index<S> {
     /// pages that are no tree.
     pub fn amvacuumcleanup(&mut self) -> Result<VacuumStats, Fault>
         ensures steps { Continues S.follows self.old.store self.new.store }
+        // Whatever fitted before, something fits after.
+        ensures fits { ForEachIndexHistory S.PageStore self.old self.new
+            (IndexStillFits S.PageStore self.new) }
         ensures runs { IndexIsRun S.PageStore 63 (VacuumMeans 63 ToCleanup result)
             (vacuum_outcome result) self.old self.new }
         // Whatever the pages are.
@@ -292,6 +301,9 @@ impl<S: PageStore> Index<S> {
     /// Makes all actions durable and answers their number. Refused with `Stopped` (3) and `Io` (2).
     pub fn commit(&mut self) -> Result<u64, Fault>
         ensures steps { Continues S.follows self.old.store self.new.store }
+        // Whatever fitted before, something fits after.
+        ensures fits { ForEachIndexHistory S.PageStore self.old self.new
+            (IndexStillFits S.PageStore self.new) }
         ensures runs { IndexIsRun S.PageStore 0 IsSameHistory
             (upkeep_outcome Forces result) self.old self.new }
         // Whatever the pages are.
@@ -310,6 +322,9 @@ impl<S: PageStore> Index<S> {
     /// number of actions. Refused with `Stopped` (3) and `Io` (2).
     pub fn checkpoint(&mut self) -> Result<u64, Fault>
         ensures steps { Continues S.follows self.old.store self.new.store }
+        // Whatever fitted before, something fits after.
+        ensures fits { ForEachIndexHistory S.PageStore self.old self.new
+            (IndexStillFits S.PageStore self.new) }
         ensures runs { IndexIsRun S.PageStore 0 IsSameHistory
             (upkeep_outcome Checkpoints result) self.old self.new }
         // Whatever the pages are.
@@ -370,6 +385,9 @@ impl<S: PageStore> Index<S> {
     /// that are no tree: the scan is over then. Once it has answered None it answers None again.
     pub fn amgettuple(&mut self, token: ScanToken) -> Result<Option<Entry>, Fault>
         ensures steps { Continues S.follows self.old.store self.new.store }
+        // Whatever fitted before, something fits after.
+        ensures fits { ForEachIndexHistory S.PageStore self.old self.new
+            (IndexStillFits S.PageStore self.new) }
         ensures runs { seat_of self.old.seats token ≡ seat_with token false
             → op_of self.old.calls token.session ≢ None
             → IndexIsRun S.PageStore token.session (SessionGivenMeans token.session result)
@@ -432,6 +450,9 @@ impl<S: PageStore> Index<S> {
     /// `NoSession` where the token is not open. The contents stay.
     pub fn amendscan(&mut self, token: ScanToken) -> Result<(), Fault>
         ensures steps { Continues S.follows self.old.store self.new.store }
+        // Whatever fitted before, something fits after.
+        ensures fits { ForEachIndexHistory S.PageStore self.old self.new
+            (IndexStillFits S.PageStore self.new) }
         ensures runs { OnOk result (IndexIsRun S.PageStore token.session
             (EndMeans token.session) None self.old self.new) }
         ensures rests { OnOk result (ForEachIndexHistory S.PageStore self.old self.new
@@ -471,6 +492,9 @@ impl<S: PageStore> Index<S> {
     /// open: nothing is changed.
     pub fn ambeginscan(&mut self, range: Range) -> Result<ScanToken, Fault>
         ensures steps { Continues S.follows self.old.store self.new.store }
+        // Whatever fitted before, something fits after.
+        ensures fits { ForEachIndexHistory S.PageStore self.old self.new
+            (IndexStillFits S.PageStore self.new) }
         ensures runs { IfOk result (λ token.
             IndexIsRun S.PageStore token.session (HasBegun token.session (ToScan range)) (Some Begun) self.old self.new) }
         // Whatever the pages are.
@@ -513,6 +537,9 @@ impl<S: PageStore> Index<S> {
     /// its end: nothing is changed.
     pub fn amrescan(&mut self, token: ScanToken, range: Range) -> Result<(), Fault>
         ensures steps { Continues S.follows self.old.store self.new.store }
+        // Whatever fitted before, something fits after.
+        ensures fits { ForEachIndexHistory S.PageStore self.old self.new
+            (IndexStillFits S.PageStore self.new) }
         ensures runs { OnOk result
             (IndexIsRun S.PageStore token.session (RescanMeans token.session range)
             (Some Begun) self.old self.new) }

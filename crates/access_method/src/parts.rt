@@ -30,7 +30,7 @@ impl<S: PageStore> Index<S> {
     ghost use Rattle.schedule.specs.Sessions.{op_of};
     ghost use Rattle.whole_calls.specs.Parts.{PartComesTo, PartMeans, RunsUnlessLast, part_outcome};
     ghost use Rattle.whole_calls.specs.Vacuuming.{Followed};
-    ghost use Rattle.access_method.specs.Indexes.{ForEachIndexHistory, IndexIsRun, IndexMakes, SameTokens, cannot_begin};
+    ghost use Rattle.access_method.specs.Indexes.{ForEachIndexHistory, IndexStillFits, IndexIsRun, IndexMakes, SameTokens, cannot_begin};
     ghost use Rattle.access_method.specs.Tokens.{NoVacuumIsOpen, IsFreeSeat, IsVacuumSeat};
     ghost use Rattle.access_method.specs.Parts.{BulkDeleteIsOpened, CleanupIsOpened, FindsNoVacuum, NotBegunFor, PartCounts, PartCountsOn, PartIsCaused, PartKeeps, VacuumIsEnded, part_answer};
 
@@ -63,6 +63,9 @@ impl<S: PageStore> Index<S> {
     /// dropped.
     pub fn begin_bulk_delete(&mut self, rows: RowSet) -> Result<(), Fault>
         ensures steps { Continues S.follows self.old.store self.new.store }
+        // Whatever fitted before, something fits after.
+        ensures fits { ForEachIndexHistory S.PageStore self.old self.new
+            (IndexStillFits S.PageStore self.new) }
         ensures opened { OnOk result (BulkDeleteIsOpened S.PageStore rows self.old self.new) }
         ensures refused { OnErr result (self.new ≡ self.old) }
         ensures cause { IfErr result (NotBegunFor S.PageStore self.old) }
@@ -85,6 +88,9 @@ impl<S: PageStore> Index<S> {
     /// refused as that is.
     pub fn begin_cleanup(&mut self) -> Result<(), Fault>
         ensures steps { Continues S.follows self.old.store self.new.store }
+        // Whatever fitted before, something fits after.
+        ensures fits { ForEachIndexHistory S.PageStore self.old self.new
+            (IndexStillFits S.PageStore self.new) }
         ensures opened { OnOk result (CleanupIsOpened S.PageStore self.old self.new) }
         ensures refused { OnErr result (self.new ≡ self.old) }
         ensures cause { IfErr result (NotBegunFor S.PageStore self.old) }
@@ -110,6 +116,9 @@ impl<S: PageStore> Index<S> {
     /// has done.
     pub fn vacuum(&mut self, steps: u32) -> Result<Option<VacuumStats>, Fault>
         ensures steps { Continues S.follows self.old.store self.new.store }
+        // Whatever fitted before, something fits after.
+        ensures fits { ForEachIndexHistory S.PageStore self.old self.new
+            (IndexStillFits S.PageStore self.new) }
         ensures none { NoVacuumIsOpen self.old.seats → FindsNoVacuum result self.old self.new }
         ensures over { (session : ℕ) → IsVacuumSeat self.old.seats session
             → op_of self.old.calls session ≡ None → FindsNoVacuum result self.old self.new }
@@ -165,6 +174,9 @@ impl<S: PageStore> Index<S> {
     /// cleanup has none. Refused with `NoSession` (12) if none is open.
     pub fn end_vacuum(&mut self) -> Result<RowSet, Fault>
         ensures steps { Continues S.follows self.old.store self.new.store }
+        // Whatever fitted before, something fits after.
+        ensures fits { ForEachIndexHistory S.PageStore self.old self.new
+            (IndexStillFits S.PageStore self.new) }
         ensures none { NoVacuumIsOpen self.old.seats → FindsNoVacuum result self.old self.new }
         ensures ended { (session : ℕ) → IsVacuumSeat self.old.seats session
             → (result ≡ Ok self.old.rows) × VacuumIsEnded S.PageStore session self.old self.new }

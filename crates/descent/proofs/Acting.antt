@@ -1,5 +1,5 @@
 -- What an act on a tree leaves to the sessions that share it.
-use Rattle.std.proofs.Common.{◌≡◌, ◌≢◌, inl, inr, ℕ, suc, Bool, true, false, ◌||◌, Option, Some, None, if◌then◌else◌, List, [], ◌∷◌, length, slice_get, refl, sym, subst, ◌∙◌, arith}
+use Rattle.std.proofs.Common.{◌≡◌, ◌≢◌, inl, inr, ℕ, suc, Bool, true, false, true≢false, ◌||◌, Option, Some, None, if◌then◌else◌, List, [], ◌∷◌, length, slice_get, refl, sym, subst, ◌∙◌, arith}
 use Rattle.index_model.specs.Actions.{Add, Shape, said_of}
 use Rattle.index_model.specs.Order.{same_entry}
 use Rattle.index_model.specs.declared.bound.Bound.{Bound}
@@ -19,14 +19,11 @@ AreFree st session [] = Unit {0}
 AreFree st session (page ∷ changed) =
     (is_held_by_another st.table session page.block Exclusive ≡ false) × AreFree st session changed
 
-true_false : true ≡ false → ⊥
-true_false h = cc
-
 -- what another session holds alone is none of these pages
 pub apart_from_held : (st : State) (session other block : ℕ) (changed : List Page) → other ≢ session → HoldsAlone st.table other block → AreFree st session changed → IsApartFrom block changed
 apart_from_held st session other block [] differ alone free = tt
 apart_from_held st session other block (page ∷ changed) differ alone free = (
-  (λ same. true_false (sym (any_excluded (holding_of st.table other).latches page.block Exclusive (subst (λ (b : ℕ). HoldsAlone st.table other b) (sym same) alone))
+  (λ same. true≢false (sym (any_excluded (holding_of st.table other).latches page.block Exclusive (subst (λ (b : ℕ). HoldsAlone st.table other b) (sym same) alone))
       ∙ free_of st.table session page.block Exclusive other differ free.0)),
   apart_from_held st session other block changed differ alone free.1,
 )

@@ -1,10 +1,7 @@
 -- A block for a new page.
-use Rattle.std.proofs.Common.{◌≡◌, ℕ, zero, suc, ◌<◌, true, false, List, [], ◌∷◌, length, sym, ap, ◌∙◌, arith}
+use Rattle.std.proofs.Common.{◌≡◌, ℕ, zero, suc, ◌<◌, true, true≢false, List, [], ◌∷◌, length, sym, ap, ◌∙◌, arith}
 use Rattle.index_model.specs.declared.format.Format.{Format}
 use Rattle.descent.proofs.Imports.{and_parts, IsPage, IsOfKind, Items, Meta, Entries, Downlinks, Page, Live, IsFresh, is_deleted, is_deleted_state, State, AreStored}
-
-true_false : true ≡ false → ⊥
-true_false h = cc
 
 -- a page of block 0 is live
 live_at_0 : (page : Page) → IsPage page → page.block ≡ 0 → page.state ≡ Live
@@ -18,7 +15,7 @@ live_at_0 page admitted is = by page.items admitted.kind
 not_deleted_at_0 : (limits : Format) (pages : List Page) → AreStored limits 0 pages → is_deleted pages 0 ≡ true → ⊥
 not_deleted_at_0 limits [] stored gone = absurd cc
 not_deleted_at_0 limits (page ∷ pages) stored gone =
-    true_false (sym gone ∙ ap is_deleted_state (live_at_0 page stored.0.storable.admitted stored.0.block_is))
+    true≢false (sym gone ∙ ap is_deleted_state (live_at_0 page stored.0.storable.admitted stored.0.block_is))
 
 -- a block for a new page isn't that of the metapage
 pub fresh_past_meta : (st : State) (block : ℕ) → AreStored st.limits 0 st.pages → 0 < length st.pages → IsFresh st block → 0 < block

@@ -1,5 +1,5 @@
 -- Where a page leads a call, in a tree.
-use Rattle.std.proofs.Common.{◌≡◌, ◌≢◌, ◌⊎◌, inl, inr, ℕ, zero, suc, ◌<◌, ◌≤◌, Bool, true, false, slice_get, length, Option, Some, None, refl, sym, ap, subst, ◌∙◌, arith}
+use Rattle.std.proofs.Common.{◌≡◌, ◌≢◌, ◌⊎◌, inl, inr, ℕ, zero, suc, ◌<◌, ◌≤◌, Bool, true, false, true≢false, slice_get, length, Option, Some, None, refl, sym, ap, subst, ◌∙◌, arith}
 use Rattle.page_action.proofs.StoredPages.{stored_page}
 use Rattle.tree_shape.specs.Aims.{aim_of, IsToward}
 use Rattle.tree_shape.specs.Nodes.{Node, node_of, node_from, nodes_of, links_of}
@@ -113,10 +113,7 @@ module _ (st : State) (aim : SearchKey) (to : ℕ) (page : Page) (position : Pos
 
   pub covers_not_passed : (page.state ≢ Live) ⊎ (is_within (aim_of aim) page.high ≡ false) → ⊥
   covers_not_passed (inl dead) = dead (sym (ap (λ (n : Node). n.state) here) ∙ at_cover.alive)
-  covers_not_passed (inr out) = no (sym (sym (ap (λ (n : Node). is_within (aim_of aim) n.high) here) ∙ at_cover.within) ∙ out)
-    where
-      no : true ≡ false → ⊥
-      no e = cc
+  covers_not_passed (inr out) = true≢false (sym (sym (ap (λ (n : Node). is_within (aim_of aim) n.high) here) ∙ at_cover.within) ∙ out)
 
   links_there : (level : ℕ) → position.level ≡ suc level → Ascends LinkBefore (links_of page.items) × StartsLow (links_of page.items)
   links_there level is =

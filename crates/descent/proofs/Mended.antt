@@ -1,5 +1,5 @@
 -- The page to the right of one that is split, with its left link mended; and a block that is free.
-use Rattle.std.proofs.Common.{◌≡◌, ◌≢◌, ℕ, ◌<◌, ◌≤◌, true, false, Option, Some, None, List, length, slice_get, refl, sym, ap, subst, ◌∙◌, arith}
+use Rattle.std.proofs.Common.{◌≡◌, ◌≢◌, ℕ, ◌<◌, ◌≤◌, true, true≢false, Option, Some, None, List, length, slice_get, refl, sym, ap, subst, ◌∙◌, arith}
 use Rattle.index_model.specs.declared.layout.Layout.TheVariants.{Two}
 use Rattle.page_codec.specs.Edits.{renewed}
 use Rattle.page_codec.proofs.Renewed.{renewed_is_page}
@@ -7,7 +7,7 @@ use Rattle.page_codec.specs.declared.page.PageState.{PageState}
 use Rattle.page_action.proofs.Writable.{writable}
 use Rattle.tree_shape.specs.Mending.{MayBeMended}
 use Rattle.descent.proofs.Imports.{and_parts, Entry, IsBlock, IsPage, IsOfKind, IsLeafIn, Items, Meta, Entries, Downlinks, Page, Live, HalfDead, Deleted, IsFresh, is_deleted, is_deleted_page}
-use Rattle.descent.proofs.Imports.{is_deleted_state, State, IsApartFrom, AreActable, inside}
+use Rattle.descent.proofs.Imports.{is_deleted_state, State, IsApartFrom, AreActable, slice_get_within}
 use Rattle.descent.specs.Splitting.{RightIsMendable, RightIsStored, mended_to}
 
 -- a page of the format stays one with another left link
@@ -32,18 +32,15 @@ mended_page page left admitted mends block = record {
     by (Downlinks v) is h =
         record { block = h.block; level = h.level; state = h.state; high = h.high; split = h.split; cycle = h.cycle; deletion = h.deletion; count = h.count; first = h.first; links = h.links }
 
-true_false : true ≡ false → ⊥
-true_false h = cc
-
 not_deleted : (state : PageState) → state ≢ Deleted → is_deleted_state state ≡ true → ⊥
-not_deleted Live ne h = true_false (sym h)
-not_deleted HalfDead ne h = true_false (sym h)
+not_deleted Live ne h = true≢false (sym h)
+not_deleted HalfDead ne h = true≢false (sym h)
 not_deleted Deleted ne h = ne refl
 
 -- a block for a new page is none of a page that is in use and not deleted
 pub fresh_apart : (st : State) (new block : ℕ) (page : Page) → IsFresh st new → slice_get st.pages block ≡ Some page → page.state ≢ Deleted → block ≢ new
 fresh_apart st new block page fresh found in_use same =
-    let used : new < length st.pages = subst (λ (b : ℕ). b < length st.pages) same (inside st.pages block page found) in
+    let used : new < length st.pages = subst (λ (b : ℕ). b < length st.pages) same (slice_get_within st.pages block page found) in
     let gone : is_deleted st.pages new ≡ true = (and_parts (is_deleted st.pages new) _ (fresh.reusable used)).0 in
     not_deleted page.state in_use (sym (ap is_deleted_page (sym (ap (slice_get st.pages) same) ∙ found)) ∙ gone)
 
@@ -59,7 +56,7 @@ right_may st session block new None None few fresh is_block mendable apart store
 right_may st session block new None (Some page) few fresh is_block mendable apart stored = absurd stored
 right_may st session block new (Some r) None few fresh is_block mendable apart stored = absurd stored
 right_may st session block new (Some r) (Some page) few fresh is_block mendable apart stored =
-    let used : r < length st.pages = inside st.pages r mendable.page mendable.found in
+    let used : r < length st.pages = slice_get_within st.pages r mendable.page mendable.found in
     let at_r : page.block ≡ r = stored.0.block_is in
     record {
       apart = (λ same. apart (ap Some (sym at_r ∙ same)), tt);

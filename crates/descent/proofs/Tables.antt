@@ -1,16 +1,13 @@
 -- What latching, pinning and letting go leave of the holdings of all sessions.
-use Rattle.std.proofs.Common.{◌≡◌, ◌≢◌, ℕ, zero, suc, ◌<◌, ◌≤◌, Bool, true, false, ◌&&◌, ◌||◌, ◌==◌, List, [], ◌∷◌, length, refl, sym, ap, subst, inl, inr, ◌∙◌, arith}
+use Rattle.std.proofs.Common.{◌≡◌, ◌≢◌, ℕ, zero, suc, ◌<◌, ◌≤◌, Bool, true, false, true≢false, ◌&&◌, ◌||◌, ◌==◌, List, [], ◌∷◌, length, refl, sym, ap, subst, inl, inr, ◌∙◌, arith}
 use Rattle.latch_table.specs.declared.mode.Latch.{Latch}
 use Rattle.latch_table.proofs.Tables.{holding_of-with_holding, holding_of-with_holding_other, is_held_by_another-free}
-use Rattle.descent.proofs.Imports.{cases_lt, cases_eq, cases_Bool, or_cases, eqb-true, and_parts, Holding, Table, excludes, holding_of, nothing_held, with_holding, latched, latches_exclude}
+use Rattle.descent.proofs.Imports.{cases_lt, cases_eq, cases_Bool, or_cases, eqb-true, and_parts, Holding, Table, excludes, holding_of, nothing_held, with_holding, latched, latches_exclude, or_from}
 use Rattle.descent.proofs.Imports.{pins_exclude, is_held_by_another, Mode, Shared, Exclusive, Cleanup, HoldsAlone, AreApart}
 
 or_left_false : (a b : Bool) → (a || b) ≡ false → a ≡ false
 or_left_false true b h = absurd cc
 or_left_false false b h = refl
-
-or_both_false : (a b : Bool) → a ≡ false → b ≡ false → (a || b) ≡ false
-or_both_false a b p q = rw (p, q) refl
 
 -- a latch that excludes a shared one, and one that any latch excludes
 excludes_any : (held asked : Mode) → excludes held Shared ≡ true → excludes held asked ≡ true
@@ -38,9 +35,6 @@ any_excluded (l ∷ latches) block asked h =
       | inl here ↦ (let parts = and_parts (l.block == block) (excludes l.mode Shared) here in rw (parts.0, excludes_any l.mode asked parts.1) refl)
       | inr there ↦ rw (any_excluded latches block asked there) (elim ((l.block == block) && excludes l.mode asked) as (λ v. (v || true) ≡ true) [ true ↦ refl | false ↦ refl ])
     ]
-
-true_false : true ≡ false → ⊥
-true_false h = cc
 
 -- no two sessions hold what excludes each other, if only one session's holding is another, and that keeps
 -- apart from the others'
@@ -114,13 +108,13 @@ apart_latched table session block mode below apart free =
       | inr there ↦ apart session other b (λ same. differ (sym same)) there
     ])
     (λ other b differ alone.
-    or_both_false ((block == b) && excludes mode Exclusive) (latches_exclude old b Exclusive)
+    or_from ((block == b) && excludes mode Exclusive) (latches_exclude old b Exclusive)
     (elim (cases_Bool (block == b)) [
       | inl same ↦ (
           let is : b ≡ block = sym (eqb-true block b same) in
           let there : latches_exclude (holding_of table other).latches block mode ≡ true =
           any_excluded (holding_of table other).latches block mode (subst (λ (n : ℕ). HoldsAlone table other n) is alone) in
-          absurd (true_false (sym there ∙ free_of table session block mode other differ free)))
+          absurd (true≢false (sym there ∙ free_of table session block mode other differ free)))
       | inr differs ↦ rw differs refl
     ])
     (apart other session b differ alone))

@@ -7,24 +7,12 @@ use Rattle.page_action.specs.Order.{with_changed}
 use Rattle.page_action.specs.Room.{KeepsRoom, HasNoRoomFor}
 use Rattle.descent.proofs.Imports.{cases_lt, ltb-true, lt-ltb, le-ltb, leb-true, le-leb, and_parts, HasCause, Fault, has_pin, is_held_by_another, Mode, Shared, Exclusive, Page, causes_of_read}
 use Rattle.descent.proofs.Imports.{causes_of_acted, is_at_end, count_apart, pinned_blocks, IsFresh, IsFull, is_reusable, State, Backing, IsLater, causes_of_working, causes_of_acting, lacks_room}
-use Rattle.descent.proofs.Imports.{count_new, frames_for, first_below, fresh_block, any_is_reusable}
+use Rattle.descent.proofs.Imports.{count_new, frames_for, first_below, fresh_block, any_is_reusable, and_from, or_left, or_right}
 
-or_left : (a b c : Bool) → (a ≡ true → c ≡ true) → (a || b) ≡ true → (c || b) ≡ true
-or_left true b c f h = rw (f refl) refl
-or_left false b true f h = refl
-or_left false b false f h = h
-
-or_here : (a b : Bool) → a ≡ true → (a || b) ≡ true
-or_here true b h = refl
-or_here false b h = absurd cc
-
-or_there : (a b : Bool) → b ≡ true → (a || b) ≡ true
-or_there true b h = refl
-or_there false b h = h
-
-and_both : (a b : Bool) → a ≡ true → b ≡ true → (a && b) ≡ true
-and_both true b p q = q
-and_both false b p q = absurd cc
+or_before : (a b c : Bool) → (a ≡ true → c ≡ true) → (a || b) ≡ true → (c || b) ≡ true
+or_before true b c f h = rw (f refl) refl
+or_before false b true f h = refl
+or_before false b false f h = h
 
 counted_one : (c : Bool) (n m k : ℕ) → n ≤ m + k → (if c then n else suc n) ≤ suc m + k
 counted_one true n m k le = omega (arith, le)
@@ -56,7 +44,7 @@ pub read_cause : (st : State) (first second third : Backing) (session : ℕ) (im
     → first.failures ≤ second.failures → (second.stopped ≡ true → first.stopped ≡ true) → third.honest ≡ true → block < length st.pages → 1 ≤ frames
     → HasCause (causes_of_read st second third block) fault → HasCause (causes_of_working st first third session images frames takes splits) fault
 read_cause st first second third session images frames takes splits block Io le alive honest used some h = later_failed first second third le h
-read_cause st first second third session images frames takes splits block Stopped le alive honest used some h = or_here first.stopped (is_at_end st.acts) (alive h)
+read_cause st first second third session images frames takes splits block Stopped le alive honest used some h = or_left first.stopped (is_at_end st.acts) (alive h)
 read_cause st first second third session images frames takes splits block NoFrame le alive honest used some h = frames_short st.frames (block ∷ []) (pinned_blocks st.table) frames some h
 read_cause st first second third session images frames takes splits block (PageDamaged b) le alive honest used some h =
     absurd (in_use_read block (length st.pages) third.honest honest used
@@ -124,7 +112,7 @@ acting_cause st old new changed LogFull full h =
     let none : length new.waiting + new.room < length (with_changed new.waiting changed) = full refl in
     let few = few_wait new.waiting changed in
     let many : old.promised ≤ length changed = leb-true old.promised (length changed) h in
-    and_both (nat_le old.promised (length (map (λ (page : Page). page.block) changed))) (nat_lt new.room (count_new new.waiting (map (λ (page : Page). page.block) changed)))
+    and_from (nat_le old.promised (length (map (λ (page : Page). page.block) changed))) (nat_lt new.room (count_new new.waiting (map (λ (page : Page). page.block) changed)))
     (le-leb old.promised _ (omega (arith, many, length_map (λ (page : Page). page.block) changed))) (lt-ltb new.room _ (omega (arith, none, few)))
 acting_cause st old new changed Io full h = h
 acting_cause st old new changed Stopped full h = h
@@ -146,7 +134,7 @@ pub act_cause : (st : State) (first second third : Backing) (session : ℕ) (ima
     → count_apart (map (λ (page : Page). page.block) changed ++ pinned_blocks st.table) ≤ frames + count_apart (pinned_blocks st.table)
     → HasCause (causes_of_acting st second third changed) fault → HasCause (causes_of_working st first third session images frames takes splits) fault
 act_cause st first second third session images frames takes splits changed Io le alive promised are short h = later_failed first second third le h
-act_cause st first second third session images frames takes splits changed Stopped le alive promised are short h = or_left second.stopped (is_at_end st.acts) first.stopped alive h
+act_cause st first second third session images frames takes splits changed Stopped le alive promised are short h = or_before second.stopped (is_at_end st.acts) first.stopped alive h
 act_cause st first second third session images frames takes splits changed LogFull le alive promised are short h =
     subst (λ (blocks : List ℕ). lacks_room first third blocks ≡ true) are (no_room_later first second third (map (λ (page : Page). page.block) changed) promised h)
 act_cause st first second third session images frames takes splits changed NoFrame le alive promised are short h =
@@ -183,9 +171,9 @@ act_cause_of st first second third session images takes splits changed fault le 
 pub held_cause : (st : State) (first third : Backing) (session : ℕ) (images : List ℕ) (frames : ℕ) (takes splits : Bool) (block : ℕ) (mode : Mode) → (mode ≡ Shared) ⊎ (mode ≡ Exclusive)
     → is_held_by_another st.table session block mode ≡ true → HasCause (causes_of_working st first third session images frames takes splits) (Blocked block)
 held_cause st first third session images frames takes splits block mode (inl is) h =
-    or_here (is_held_by_another st.table session block Shared) _ (subst (λ (m : Mode). is_held_by_another st.table session block m ≡ true) is h)
+    or_left (is_held_by_another st.table session block Shared) _ (subst (λ (m : Mode). is_held_by_another st.table session block m ≡ true) is h)
 held_cause st first third session images frames takes splits block mode (inr is) h =
-    or_there (is_held_by_another st.table session block Shared) _ (subst (λ (m : Mode). is_held_by_another st.table session block m ≡ true) is h)
+    or_right (is_held_by_another st.table session block Shared) _ (subst (λ (m : Mode). is_held_by_another st.table session block m ≡ true) is h)
 
 none_below : (st : State) (n : ℕ) → ((b : ℕ) → b < n → is_reusable st b ≡ false) → any_is_reusable st n ≡ false
 none_below st zero none = refl
@@ -220,7 +208,7 @@ fresh_is st block fresh = first_is (is_reusable st) (length st.pages) block fres
 -- the log had stopped
 pub stopped_cause : (st : State) (first third : Backing) (session : ℕ) (images : List ℕ) (frames : ℕ) (takes splits : Bool) → first.stopped ≡ true
     → HasCause (causes_of_working st first third session images frames takes splits) Stopped
-stopped_cause st first third session images frames takes splits h = or_here first.stopped (is_at_end st.acts) h
+stopped_cause st first third session images frames takes splits h = or_left first.stopped (is_at_end st.acts) h
 
 -- what two readings leave of the room
 pub keeps_room_on : (st : State) (first second third : Backing) → first.durable ≤ second.durable → second.durable ≤ st.acts
@@ -235,7 +223,7 @@ pub working_later : (st : State) (first second third : Backing) (session : ℕ) 
     → first.failures ≤ second.failures → (second.stopped ≡ true → first.stopped ≡ true) → second.promised ≡ first.promised
     → HasCause (causes_of_working st second third session images frames takes splits) fault → HasCause (causes_of_working st first third session images frames takes splits) fault
 working_later st first second third session images frames takes splits Io le alive promised h = later_failed first second third le h
-working_later st first second third session images frames takes splits Stopped le alive promised h = or_left second.stopped (is_at_end st.acts) first.stopped alive h
+working_later st first second third session images frames takes splits Stopped le alive promised h = or_before second.stopped (is_at_end st.acts) first.stopped alive h
 working_later st first second third session images frames takes splits LogFull le alive promised h = no_room_later first second third images promised h
 working_later st first second third session images frames takes splits (Blocked b) le alive promised h = h
 working_later st first second third session images frames takes splits (PageDamaged b) le alive promised h = h
@@ -248,14 +236,14 @@ apart_pinned block blocks pins pin = subst (λ (c : Bool). (if c then count_apar
   where
     pin_among : (bs : List ℕ) → has_pin (bs ++ pins) block ≡ true
     pin_among [] = pin
-    pin_among (b ∷ bs) = or_there (b == block) (has_pin (bs ++ pins) block) (pin_among bs)
+    pin_among (b ∷ bs) = or_right (b == block) (has_pin (bs ++ pins) block) (pin_among bs)
 
 -- ... and a page that is pinned already is read without another frame
 pub read_pinned_cause : (st : State) (first third : Backing) (session : ℕ) (images : List ℕ) (frames : ℕ) (takes splits : Bool) (block : ℕ) (fault : Fault)
     → third.honest ≡ true → block < length st.pages → has_pin (pinned_blocks st.table) block ≡ true
     → HasCause (causes_of_read st first third block) fault → HasCause (causes_of_working st first third session images frames takes splits) fault
 read_pinned_cause st first third session images frames takes splits block Io honest used pin h = h
-read_pinned_cause st first third session images frames takes splits block Stopped honest used pin h = or_here first.stopped (is_at_end st.acts) h
+read_pinned_cause st first third session images frames takes splits block Stopped honest used pin h = or_left first.stopped (is_at_end st.acts) h
 read_pinned_cause st first third session images frames takes splits block NoFrame honest used pin h =
     let few = apart_pinned block [] (pinned_blocks st.table) pin in
     let k : st.frames < count_apart (block ∷ pinned_blocks st.table) = ltb-true st.frames _ h in

@@ -1,10 +1,10 @@
 -- An insert that adds its entry to the leaf that it holds.
-use Rattle.std.proofs.Common.{◌≡◌, ◌≢◌, ℕ, zero, suc, ◌<◌, ◌≤◌, Bool, true, false, ◌||◌, ◌==◌, Option, Some, None, Result, Ok, Err, List, [], ◌∷◌, ◌++◌, length, slice_get, refl, sym, ap, subst, inl, inr, ◌∙◌, arith}
+use Rattle.std.proofs.Common.{◌≡◌, ◌≢◌, ℕ, zero, suc, ◌<◌, ◌≤◌, Bool, true, false, true≢false, ◌||◌, ◌==◌, Option, Some, None, Result, Ok, Err, List, [], ◌∷◌, ◌++◌, length, slice_get, refl, sym, ap, subst, inl, inr, ◌∙◌, arith}
 use Rattle.index_model.specs.Row.{Row}
 use Rattle.index_model.proofs.Ascending.{same_entry-is}
 use Rattle.tree_acts.proofs.Uniques.{key_shows}
 use Rattle.insert_split.proofs.Imports.{le-leb, cases_Bool, eq-eqb, lt-leb, Add, HasCause, is_among, same_entry, Entry, Fault, Exists, KeyExists, Holding, Table, HasRoom, has_pin, holding_of}
-use Rattle.insert_split.proofs.Imports.{nothing_held, latches_exclude, Shared, Exclusive, entries_of, IsPage, Page, Live, pinned_blocks, causes_of_read, with_row, entry_on_live_leaf, State}
+use Rattle.insert_split.proofs.Imports.{nothing_held, latches_exclude, Shared, Exclusive, entries_of, IsPage, Page, Live, pinned_blocks, causes_of_read, with_row, entry_on_live_leaf, State, or_left, or_right}
 use Rattle.insert_split.proofs.Imports.{Backing, Continues, after_act, AreActable, Ghosts, entry_aim, is_within, EntryIsPut, KeyMayEnter, FlagsMove, HasTree, LeadsTo, HasCover, putting_lasts}
 use Rattle.insert_split.proofs.Imports.{putting_leaves, putting_flags, putting_weighs, live_shows, leaf_shows, IsInOrder, StepEffect, is_incomplete, causes_of_working, HoldsAlone, does_add}
 use Rattle.insert_split.proofs.Imports.{one_act, any_excluded, working_later, read_pinned_cause, IfOk, IfErr, OnErr, OnlyTargetsAreIncomplete, is_among_targets, leaf_held, IsLeafFor}
@@ -12,9 +12,6 @@ use Rattle.insert_split.proofs.Imports.{InsertInvariant, InsertStands, InsertSte
 use Rattle.insert_split.proofs.Imports.{straight_steps, EntryPut, PutsEntry, PlaceRefused, InsertAt, Coming, Holds, InsertOp, InsertStep, Going, Added}
 use Rattle.insert_split.proofs.Steps.{runs_no_more, refuses}
 use Rattle.insert_split.proofs.Walking.{as_inserting, leaf_items, up_to_within, place_in_use}
-
-true_false : true ≡ false → ⊥
-true_false h = cc
 
 -- what holds of an insert that holds its leaf
 pub leaf_there : (st : State) (op : InsertOp) (block : ℕ) → op.at ≡ Coming (Holds block) → (fits : InsertInvariant st op)
@@ -26,7 +23,7 @@ none_added op block at_is h = subst (λ (a : InsertAt). IsToCome a op.added) at_
 
 pub no_targets : (op : InsertOp) (block : ℕ) (st : State) → op.at ≡ Coming (Holds block) → OnlyTargetsAreIncomplete st (targets_at op.at) → (b : ℕ) → is_incomplete st b ≡ true → ⊥
 no_targets op block st at_is only b incomplete =
-    (let k : false ≡ true = subst (λ (a : InsertAt). is_among_targets (targets_at a) b ≡ true) at_is (only b incomplete) in true_false (sym k))
+    (let k : false ≡ true = subst (λ (a : InsertAt). is_among_targets (targets_at a) b ≡ true) at_is (only b incomplete) in true≢false (sym k))
 
 -- the leaf as it was read
 pub same_leaf : (st : State) (start : ℕ) (e : Entry) (block : ℕ) (page : Page) → slice_get st.pages block ≡ Some page → (leaf : IsLeafFor st start e block) → leaf.page ≡ page
@@ -35,17 +32,9 @@ same_leaf st start e block page found leaf = (let k : Some leaf.page ≡ Some pa
 pub room_held : (st : State) (session block : ℕ) → holding_of st.table session ≡ leaf_held block → HasRoom st.table session
 room_held st session block held = subst (λ (h : Holding). length h.latches < 8) (sym held) (omega arith)
 
-or_there : (a b : Bool) → b ≡ true → (a || b) ≡ true
-or_there true b h = refl
-or_there false b h = h
-
 pin_right : (xs ys : List ℕ) (b : ℕ) → has_pin ys b ≡ true → has_pin (xs ++ ys) b ≡ true
 pin_right [] ys b h = h
-pin_right (x ∷ xs) ys b h = or_there (x == b) (has_pin (xs ++ ys) b) (pin_right xs ys b h)
-
-or_here : (a b : Bool) → a ≡ true → (a || b) ≡ true
-or_here true b h = refl
-or_here false b h = absurd cc
+pin_right (x ∷ xs) ys b h = or_right (x == b) (has_pin (xs ++ ys) b) (pin_right xs ys b h)
 
 or_split : (a b c : Bool) → (b ≡ true → c ≡ true) → (a || b) ≡ true → (a || c) ≡ true
 or_split true b c f h = refl
@@ -56,7 +45,7 @@ pin_left [] ys b h = absurd cc
 pin_left (x ∷ xs) ys b h = or_split (x == b) (has_pin xs b) (has_pin (xs ++ ys) b) (λ k. pin_left xs ys b k) h
 
 same_block : (b : ℕ) → has_pin (b ∷ []) b ≡ true
-same_block b = or_here (b == b) false (eq-eqb b b refl)
+same_block b = or_left (b == b) false (eq-eqb b b refl)
 
 -- the leaf that a session holds is pinned
 pub pinned_leaf : (table : Table) (session block : ℕ) → holding_of table session ≡ leaf_held block → has_pin (pinned_blocks table) block ≡ true
@@ -79,7 +68,7 @@ pub not_the_leaf : (st : State) (session other block : ℕ) → IsInOrder st →
 not_the_leaf st session other block order held differ alone =
     let mine : HoldsAlone st.table session block = holds_leaf st session block held in
     let free : latches_exclude (holding_of st.table other).latches block Exclusive ≡ false = order.apart session other block (λ same. differ (sym same)) mine in
-    true_false (sym (any_excluded (holding_of st.table other).latches block Exclusive alone) ∙ free)
+    true≢false (sym (any_excluded (holding_of st.table other).latches block Exclusive alone) ∙ free)
 
 -- how many images and frames a leaf takes that is full, or isn't, and whether a block
 pub full_is : (st : State) (block : ℕ) (page : Page) → slice_get st.pages block ≡ Some page → st.limits.items ≤ length (entries_of page.items)

@@ -1,5 +1,5 @@
 -- An insert that finishes splits.
-use Rattle.std.proofs.Common.{◌≡◌, ℕ, ◌<◌, ◌||◌, Bool, true, false, Option, Some, None, Result, Ok, Err, List, slice_get, refl, sym, ap, subst, inl, inr, ◌∙◌, arith}
+use Rattle.std.proofs.Common.{◌≡◌, ℕ, ◌<◌, ◌||◌, Bool, true, false, true≢false, Option, Some, None, Result, Ok, Err, List, slice_get, refl, sym, ap, subst, inl, inr, ◌∙◌, arith}
 use Rattle.split_finish.specs.Turns.{splits_root_of}
 use Rattle.split_finish.specs.declared.finish.FinishStep.TheVariants.{Going as FinishGoing, Done}
 use Rattle.insert_split.proofs.Imports.{Effect, HasCause, Entry, Fault, Stopped, Blocked, Table, holding_of, nothing_held, Format, is_at_end, State, Backing, Ghosts, IsInOrder, StepEffect}
@@ -84,9 +84,6 @@ finish_done g before after splits then_splits step old new at_is alive h on = by
         let there = finishing_there (g.state old) before splits at_is fits in
         (h.stepped honest order there.1).flags (subst (λ (a : InsertAt). OnlyTargetsAreIncomplete (g.state old) (targets_at a)) at_is only)
 
-    true_false : true ≡ false → ⊥
-    true_false k = cc
-
     by : (added : Option ℕ) → before.added ≡ added → ContinuesFrom added (record before { at = Finishing then_splits }) after step → InsertSteps g before after old new (Ok step)
     by None is on = subst (λ (s : InsertStep). InsertSteps g before after old new (Ok s)) (sym on.0) (subst (λ (o : InsertOp). InsertSteps g before o old new (Ok Going)) (sym on.1) (record {
       steps = h.steps;
@@ -112,7 +109,7 @@ finish_done g before after splits then_splits step old new at_is alive h on = by
               stands = ap (λ (t : Table). holding_of t before.session) last.table ∙ subst (λ (s : ℕ). holding_of (g.state old).table s ≡ nothing_held) there.0 there.1.free;
               to_come = is;
             };
-            flags = λ only b incomplete. absurd (true_false (sym incomplete ∙ none_incomplete order fits honest only b));
+            flags = λ only b incomplete. absurd (true≢false (sym incomplete ∙ none_incomplete order fits honest only b));
           };
       straight = λ honest order fits whole on room. absurd (subst (IsStraight (g.state old) before.entry) at_is on);
     }))

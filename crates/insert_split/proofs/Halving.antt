@@ -4,7 +4,7 @@ use Rattle.page_codec.specs.Spelling.{count_of}
 use Rattle.page_action.proofs.Writable.{writable}
 use Rattle.descent.proofs.Mended.{fresh_apart, RightMay, right_may}
 use Rattle.insert_split.proofs.Imports.{Entry, Format, Two, entries_of, HasEntries, IsBlock, IsPage, Items, Meta, Entries, Downlinks, Page, Live, Deleted, IsFresh, State, IsStored, IsApartFrom}
-use Rattle.insert_split.proofs.Imports.{AreActable, left_count, MayHold, has_pin, pinned_blocks, count_apart, apart_pinned, inside, sibling, RightIsStored, mended_to, IsSplittable}
+use Rattle.insert_split.proofs.Imports.{AreActable, left_count, MayHold, has_pin, pinned_blocks, count_apart, apart_pinned, sibling, RightIsStored, mended_to, IsSplittable, slice_get_within}
 
 -- a leaf has as many items as entries
 pub leaf_count : (items : Items) → HasEntries items → count_of items ≡ length (entries_of items)
@@ -28,7 +28,7 @@ halves_may st session e page left half right fits may some left_new half_new lef
 )
   where
     used : page.block < length st.pages
-    used = inside st.pages page.block page fits.found
+    used = slice_get_within st.pages page.block page fits.found
 
     apart_new : page.block ≢ half.block
     apart_new = fresh_apart st half.block page.block page fresh fits.found (λ gone. live_not_deleted (sym may.alive ∙ gone))

@@ -1,5 +1,6 @@
 -- What several proofs of this crate import, passed on from one place. Declares nothing.
-pub use Rattle.std.proofs.lemmas.Bool.{cases_Bool, cases_eq, eq-eqb, le-leb, lt-leb, ne_eqb}
+pub use Rattle.std.proofs.lemmas.Bool.{cases_Bool, cases_eq, eq-eqb, le-leb, lt-leb, ne_eqb, not-true, or_left, or_right}
+pub use Rattle.std.proofs.lemmas.Option.{slice_get_within}
 pub use Rattle.std.specs.Prelude.{IfErr, IfOk, IsSome, OnErr, OnOk, slice_index_or}
 pub use Rattle.index_model.specs.Actions.{Add, Effect}
 pub use Rattle.index_model.specs.Faults.{HasCause}
@@ -38,7 +39,7 @@ pub use Rattle.tree_acts.proofs.Entering.{leaf_split_lasts, putting_lasts}
 pub use Rattle.tree_acts.proofs.Flagging.{leaf_split_flags, putting_flags}
 pub use Rattle.tree_acts.proofs.Leaving.{leaf_split_leaves, putting_leaves}
 pub use Rattle.tree_acts.proofs.Meanings.{high_key_shows, leaf_shows, live_shows, metapage_shows, neighbour_shows, root_covers_all, trail_begins_here}
-pub use Rattle.tree_acts.proofs.Overlays.{inside, pages_first}
+pub use Rattle.tree_acts.proofs.Overlays.{pages_first}
 pub use Rattle.tree_acts.proofs.Weighed.{leaf_split_weighs, putting_weighs}
 pub use Rattle.tree_acts.specs.Acts.{EntryIsPut, KeyMayEnter, LeafIsSplit}
 pub use Rattle.tree_acts.specs.Flags.{FlagsMove, flag_after}

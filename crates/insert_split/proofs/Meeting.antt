@@ -1,5 +1,5 @@
 -- An insert that meets a page whose split is to be finished.
-use Rattle.std.proofs.Common.{◌≡◌, ℕ, zero, suc, ◌+◌, ◌*◌, ◌<◌, Bool, true, false, Some, Result, Ok, Err, List, [], length, slice_get, refl, sym, ap, subst, ◌∙◌, arith}
+use Rattle.std.proofs.Common.{◌≡◌, ℕ, zero, suc, ◌+◌, ◌*◌, ◌<◌, Bool, true, false, true≢false, Some, Result, Ok, Err, List, [], length, slice_get, refl, sym, ap, subst, ◌∙◌, arith}
 use Rattle.std.specs.Ordering.{is_eq}
 use Rattle.std.specs.Cmp.{tied_itself}
 use Rattle.index_model.proofs.Order.{bounds_total}
@@ -30,9 +30,6 @@ one_target_left most pages target op page is below at found incomplete high =
 none_got : (i : ℕ) (t : Target) → slice_get [] i ≡ Some t → ⊥
 none_got zero t h = cc
 none_got (suc i) t h = cc
-
-true_false : true ≡ false → ⊥
-true_false h = cc
 
 -- what an insert knows that has one target
 pub one_target_fits : (st : State) (start session : ℕ) (aim : Bound → Bool) (position : Position) (page : Page) (target : Target) (op : FinishOp) → HasTree st → session < 64
@@ -67,7 +64,7 @@ meets g before after old new page position (Ok Going) steps same alive at_is h l
     goes_on g before after old new steps same (ap (λ (o : InsertOp). o.session) h.finishes.after_is) (ap (λ (o : InsertOp). o.entry) h.finishes.after_is) alive
     (λ honest. less (found honest))
     (λ honest order fits. now (found honest) order fits)
-    (λ honest order whole on. absurd (true_false (sym incomplete ∙ whole position.block page (found honest))))
+    (λ honest order whole on. absurd (true≢false (sym incomplete ∙ whole position.block page (found honest))))
   where
     st : State
     st = g.state old
@@ -108,7 +105,7 @@ meets g before after old new page position (Ok Going) steps same alive at_is h l
           added = ap (λ (o : InsertOp). o.added) h.finishes.after_is;
           flags = λ only b is.
               absurd (let none : is_among_targets (targets_at before.at) b ≡ true = only b is in let k : false ≡ true =
-              subst (λ (a : InsertAt). is_among_targets (targets_at a) b ≡ true) at_is none in true_false (sym k));
+              subst (λ (a : InsertAt). is_among_targets (targets_at a) b ≡ true) at_is none in true≢false (sym k));
         }
 meets g before after old new page position (Ok (Added action unfinished)) steps same alive at_is h live incomplete admitted block_is found = absurd h
 meets g before after old new page position (Err fault) steps same alive at_is h live incomplete admitted block_is found =

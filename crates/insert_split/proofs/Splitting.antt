@@ -1,5 +1,5 @@
 -- An insert that splits its leaf.
-use Rattle.std.proofs.Common.{◌≡◌, ◌≢◌, ℕ, suc, ◌<◌, ◌≤◌, Bool, true, false, ◌||◌, Option, Some, None, Result, Ok, Err, List, [], ◌∷◌, length, slice_get, refl, sym, ap, subst, inl, inr, ◌∙◌, arith}
+use Rattle.std.proofs.Common.{◌≡◌, ◌≢◌, ℕ, suc, ◌<◌, ◌≤◌, Bool, true, false, true≢false, ◌||◌, Option, Some, None, Result, Ok, Err, List, [], ◌∷◌, length, slice_get, refl, sym, ap, subst, inl, inr, ◌∙◌, arith}
 use Rattle.split_finish.proofs.Parting.{mends_right}
 use Rattle.insert_split.proofs.Adding.{leaf_there, none_added, no_targets, same_leaf, room_held, pinned_leaf, not_the_leaf, full_is, holding_cause, covers_there}
 use Rattle.insert_split.proofs.Meeting.{one_target_fits, read_at}
@@ -38,14 +38,11 @@ others_held table session block other differ = holding_of-unpinned_other (releas
 pub many_held : (table : Table) (session block : ℕ) → length (let_go table session block) ≡ length table
 many_held table session block = length-unpinned (released table session block) session block ∙ length-released table session block
 
-true_false : true ≡ false → ⊥
-true_false h = cc
-
 pub apart_let_go : (table table' : Table) (session : ℕ) → AreApart table → holding_of table' session ≡ nothing_held
     → ((other : ℕ) → other ≢ session → holding_of table' other ≡ holding_of table other) → AreApart table'
 apart_let_go table table' session apart none kept one two block differ alone =
     elim (cases_eq one session) [
-      | inl is_one ↦ absurd (true_false (sym alone ∙ ap (λ (h : Holding). latches_exclude h.latches block Shared) (ap (holding_of table') is_one ∙ none)))
+      | inl is_one ↦ absurd (true≢false (sym alone ∙ ap (λ (h : Holding). latches_exclude h.latches block Shared) (ap (holding_of table') is_one ∙ none)))
       | inr not_one ↦ (
           let was : HoldsAlone table one block = sym (ap (λ (h : Holding). latches_exclude h.latches block Shared) (kept one not_one)) ∙ alone in
           elim (cases_eq two session) [

@@ -1,5 +1,5 @@
 -- An insert that comes to its leaf, and takes it.
-use Rattle.std.proofs.Common.{[], ◌≡◌, ℕ, suc, ◌<◌, true, false, Option, Some, None, Result, Ok, Err, ◌∷◌, length, slice_get, refl, sym, ap, subst, inr, ◌∙◌, arith}
+use Rattle.std.proofs.Common.{[], ◌≡◌, ℕ, suc, ◌<◌, true, false, true≢false, Option, Some, None, Result, Ok, Err, ◌∷◌, length, slice_get, refl, sym, ap, subst, inr, ◌∙◌, arith}
 use Rattle.insert_split.proofs.Imports.{HasCause, Fault, Blocked, Holding, Table, holding_of, nothing_held, latched, pinned, is_held_by_another, Exclusive, length-latched, length-pinned}
 use Rattle.insert_split.proofs.Imports.{holding_of-latched, holding_of-pinned, holding_of-latched_other, holding_of-pinned_other, IsPage, Page, Live, State, Continues, with_table, Ghosts}
 use Rattle.insert_split.proofs.Imports.{entry_aim, is_within, MayHold, LeadsTo, live_shows, IsInOrder, StepEffect, AreApart, Position, holds_else, one_table, place_held_else, apart_latched}
@@ -33,9 +33,6 @@ takes_leaf old new session block low order nothing free is =
           (λ other differ. holding_of-pinned_other mid session other block differ ∙ holding_of-latched_other old.table session other block Exclusive differ),
       ap (λ (st : State). holding_of st.table session) is ∙ end_held,
     )
-
-true_false : true ≡ false → ⊥
-true_false h = cc
 
 -- a step that takes the leaf, or doesn't
 pub takes : {S : Type 0} (g : Ghosts S) (before after : InsertOp) (old mid new : S) (page : Page) (position : Position) (result : Result InsertStep Fault)
@@ -93,7 +90,7 @@ takes g before after old mid new page position (Ok Going) steps same backing ali
         });
         flags = λ only b incomplete. absurd (
             let was : is_among_targets (targets_at before.at) b ≡ true = only b (subst (λ (s : State). is_incomplete s b ≡ true) now incomplete) in
-            let k : false ≡ true = subst (λ (a : InsertAt). is_among_targets (targets_at a) b ≡ true) at_is was in true_false (sym k));
+            let k : false ≡ true = subst (λ (a : InsertAt). is_among_targets (targets_at a) b ≡ true) at_is was in true≢false (sym k));
       };
   straight = λ honest order fits whole_pages on room. (
     subst (λ (o : InsertOp). IsStraight (g.state new) o.entry o.at) (sym is) tt,

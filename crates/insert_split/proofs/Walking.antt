@@ -1,11 +1,11 @@
 -- An insert on its way to its leaf.
-use Rattle.std.proofs.Common.{[], ◌≡◌, ℕ, ◌<◌, ◌≤◌, Bool, true, false, not, Option, Some, None, List, length, slice_get, refl, sym, subst, inl, inr, ◌∙◌, arith}
+use Rattle.std.proofs.Common.{[], ◌≡◌, ℕ, ◌<◌, ◌≤◌, Bool, true, false, true≢false, Option, Some, None, List, length, slice_get, refl, sym, subst, inl, inr, ◌∙◌, arith}
 use Rattle.page_codec.specs.declared.page.PageState.{PageState}
 use Rattle.tree_shape.proofs.Shown.{places_keep_their_level}
 use Rattle.tree_acts.proofs.Lasting.{deleted_in_use}
 use Rattle.tree_acts.proofs.Words.{place_in}
 use Rattle.descent.specs.declared.position.NextPage.{NextPage}
-use Rattle.insert_split.proofs.Imports.{HasCause, IsUpTo, bound_of, Bound, Entry, Fault, Blocked, PageDamaged, Exists, KeyExists, Io, Stopped, IndexFull, LogFull, NoFrame, TooTall, Holding}
+use Rattle.insert_split.proofs.Imports.{HasCause, IsUpTo, bound_of, Bound, Entry, Fault, Blocked, PageDamaged, Exists, KeyExists, Io, Stopped, IndexFull, LogFull, NoFrame, TooTall, Holding, not-true}
 use Rattle.insert_split.proofs.Imports.{HasRoom, holding_of, nothing_held, HasEntries, IsSome, IsPage, IsOfKind, IsLeafIn, Items, Meta, Entries, Downlinks, Page, Live, HalfDead, Deleted, State}
 use Rattle.insert_split.proofs.Imports.{Backing, nodes_of, entry_aim, bound_aim, is_within, is_fit, HasTree, LeadsTo, IsOnDescent, LeadsToNext, IsInOrder, causes_of_working, Position}
 use Rattle.insert_split.proofs.Imports.{InsertInvariant, InsertStands, IsToCome, causes_of_inserting, InsertAt, Coming, At, InsertOp}
@@ -58,13 +58,9 @@ leaf_items page admitted ground above = by page.items admitted.kind
     by (Entries v) h = tt
     by (Downlinks v) h = absurd (let k : 0 < page.level = h.level.0 in omega arith)
 
-not_true : (b : Bool) → not b ≡ true → b ≡ false
-not_true true h = absurd cc
-not_true false h = refl
-
 pub up_to_within : (high : Option Bound) (e : Entry) → is_within (entry_aim e) high ≡ true → IsUpTo high e
 up_to_within None e h = tt
-up_to_within (Some high) e h = not_true (entry_aim e high) h
+up_to_within (Some high) e h = not-true (entry_aim e high) h
 
 -- where an insert on its way stands
 pub on_way : (st : State) (op : InsertOp) (position : Position) → op.at ≡ Coming (At position) → (fits : InsertInvariant st op)
@@ -78,9 +74,6 @@ pub reading_cause : (st : State) (old new : Backing) (op : InsertOp) (position :
     → HasCause (causes_of_working st old new op.session [] 1 false false) fault → HasCause (causes_of_inserting st old new op.session op.entry op.at) fault
 reading_cause st old new op position fault at_is h = rw at_is (as_inserting st old new op.session op.entry (Coming (At position)) [] 1 false false fault refl h)
 
-true_false : true ≡ false → ⊥
-true_false h = cc
-
 some_none : {A : Type 0} (x : Option A) → x ≡ None → IsSome x → ⊥
 some_none None h s = cc
 some_none (Some x) h s = cc
@@ -90,7 +83,7 @@ pub incomplete_ends : (page : Page) → IsPage page → page.state ≡ Live → 
 incomplete_ends page admitted alive incomplete none = by page.items admitted.kind
   where
     by : (items : Items) → IsOfKind page items → ⊥
-    by Meta h = true_false (sym incomplete ∙ h.split)
+    by Meta h = true≢false (sym incomplete ∙ h.split)
     by (Entries v) h = (let rest = subst (λ (s : PageState). IsLeafIn s page v.items) alive h.rest in some_none page.high none (rest.high.1 (rest.split incomplete)))
     by (Downlinks v) h = some_none page.high none (h.high.1 (h.split incomplete))
 

@@ -1,8 +1,9 @@
 -- How many sessions hold something, and what that says of conflicts.
-use Rattle.std.proofs.Common.{◌≡◌, ℕ, zero, suc, ◌+◌, ◌<◌, ◌≤◌, Bool, true, false, not, ◌&&◌, ◌||◌, ◌==◌, List, [], ◌∷◌, length, get_or, replicate, refl, ap, sym, subst, ◌∙◌, arith}
+use Rattle.std.proofs.Common.{◌≡◌, ℕ, zero, suc, ◌+◌, ◌<◌, ◌≤◌, Bool, true, false, not, ◌||◌, ◌==◌, List, [], ◌∷◌, length, get_or, replicate, refl, ap, sym, subst, ◌∙◌, arith}
 use Rattle.std.proofs.lemmas.Bool.{eq-eqb, ne_eqb}
 use Rattle.std.proofs.lemmas.List.{length-set, get_or_default, get_or-set_same}
 use Rattle.std.proofs.lemmas.Option.{unwrap_or-slice_get}
+use Rattle.std.proofs.Math.Bool.{and-false}
 use Rattle.latch_table.specs.declared.mode.Mode.{Mode}
 use Rattle.latch_table.specs.declared.mode.Mode.TheVariants.{Shared, Exclusive, Cleanup}
 use Rattle.latch_table.specs.declared.mode.Latch.{Latch}
@@ -60,14 +61,10 @@ excludes_nothing holding block asked none =
     ap (λ (ls : List Latch). latches_exclude ls block asked || pins_exclude holding.pins block asked) latches
     ∙ ap (λ (ps : List ℕ). pins_exclude ps block asked) pins ∙ pinless block asked
 
-and_false : (b : Bool) → (b && false) ≡ false
-and_false true = refl
-and_false false = refl
-
 none_exclude : (from : ℕ) (table : Table) (session block : ℕ) (asked : Mode) → holder_count table ≡ 0 → others_exclude from table session block asked ≡ false
 none_exclude from [] session block asked none = refl
 none_exclude from (holding ∷ table) session block asked none =
-    rw (excludes_nothing holding block asked (omega (arith, none)), and_false (not (from == session))) (none_exclude (suc from) table session block asked (omega (arith, none)))
+    rw (excludes_nothing holding block asked (omega (arith, none)), and-false (not (from == session))) (none_exclude (suc from) table session block asked (omega (arith, none)))
 
 own_alone : (from : ℕ) (table : Table) (place session block : ℕ) (asked : Mode) → place < length table → session ≡ from + place
     → holder_count table ≡ one_if (holds_any (holding_of table place)) → others_exclude from table session block asked ≡ false
@@ -79,7 +76,7 @@ own_alone from (holding ∷ table) (suc place) session block asked below is alon
     let among = counted table place in
     let none : one_if (holds_any holding) ≡ 0 = omega (arith, alone, among) in
     let rest : holder_count table ≡ one_if (holds_any (holding_of table place)) = omega (arith, alone, among) in
-    rw (excludes_nothing holding block asked none, and_false (not (from == session))) (own_alone (suc from) table place session block asked (omega arith) (omega (arith, is)) rest)
+    rw (excludes_nothing holding block asked none, and-false (not (from == session))) (own_alone (suc from) table place session block asked (omega arith) (omega (arith, is)) rest)
 
 -- if the session alone may hold something, nothing is in its way
 pub alone : (table : Table) (session block : ℕ) (asked : Mode) → session < length table

@@ -2,6 +2,7 @@
 use Rattle.std.proofs.Common.{◌≡◌, ℕ, suc, ◌+◌, Bool, true, false, not, ◌&&◌, ◌||◌, ◌==◌, cond, nat_lt, List, [], ◌∷◌, length, drop, drop-cons, get_or, ◌<◌, Some, None, refl, ap, sym, ◌∙◌, arith, add-one, ◌≤◌, take_all, append-nil}
 use Rattle.std.proofs.Math.ListN.{drop_of_length-le}
 use Rattle.std.proofs.lemmas.Bool.{ltb-false, eq-eqb}
+use Rattle.std.proofs.Math.Bool.{and-false}
 use Rattle.std.specs.List.{list_any, position, position_or_len, remove}
 use Rattle.latch_table.specs.declared.mode.Mode.{Mode}
 use Rattle.latch_table.specs.declared.mode.Mode.TheVariants.{Shared, Exclusive, Cleanup}
@@ -41,10 +42,6 @@ without_latch-without [] block = refl
 without_latch-without (held ∷ latches) block =
     ap (λ rest. cond (held.block == block) latches (held ∷ rest)) (without_latch-without latches block)
 
-and_false : (b : Bool) → (b && false) ≡ false
-and_false true = refl
-and_false false = refl
-
 -- whether the holdings from this number on exclude, by the one there and those after it
 others_exclude-drop : (table : Table) (number session block : ℕ) (asked : Mode) (any : Holding) → number < length table
     → others_exclude number (drop number table) session block asked
@@ -57,7 +54,7 @@ pub passes_on : (table : Table) (number session block : ℕ) (asked : Mode) (any
     → holding_excludes (get_or table number any) block asked ≡ false
     → others_exclude number (drop number table) session block asked ≡ others_exclude (number + 1) (drop (number + 1) table) session block asked
 passes_on table number session block asked any below none =
-    rw (others_exclude-drop table number session block asked any below, none, and_false (not (number == session))) refl
+    rw (others_exclude-drop table number session block asked any below, none, and-false (not (number == session))) refl
 
 -- the session's own is passed
 pub passes_own : (table : Table) (number session block : ℕ) (asked : Mode) (any : Holding) → number < length table → number ≡ session

@@ -1,6 +1,6 @@
 -- What a table holds after a latch, a pin or their release, and who excludes whom.
-use Rattle.std.proofs.Common.{◌≡◌, ◌≢◌, ℕ, zero, suc, ◌+◌, ◌<◌, Bool, true, false, not, ◌&&◌, ◌||◌, ◌==◌, cond, [], ◌∷◌, length, refl, ap, sym, ◌∙◌, arith, ◌⊎◌, inl, inr, ⊎_elim}
-use Rattle.std.proofs.lemmas.Bool.{ne_eqb, eqb-false, lt-ltb, not-true, false_from_ne_true, true≢false}
+use Rattle.std.proofs.Common.{◌≡◌, ◌≢◌, ℕ, zero, suc, ◌+◌, ◌<◌, Bool, true, false, not, ◌&&◌, ◌==◌, cond, [], ◌∷◌, length, refl, ap, sym, ◌∙◌, arith, ◌⊎◌, ⊎_elim}
+use Rattle.std.proofs.lemmas.Bool.{ne_eqb, eqb-false, lt-ltb, not-true, false_from_ne_true, true≢false, or_cases, or_left, or_right}
 use Rattle.std.proofs.lemmas.List.{length-set, get_or-set_same, get_or-set_other, set-set, set-get_or}
 use Rattle.std.proofs.lemmas.Option.{unwrap_or-slice_get}
 use Rattle.latch_table.specs.declared.mode.Mode.{Mode}
@@ -98,17 +98,6 @@ put_back table session between again same =
 
 -- who excludes whom
 
-or_left : (a b : Bool) → a ≡ true → (a || b) ≡ true
-or_left a b one = rw one refl
-
-or_right : (a b : Bool) → b ≡ true → (a || b) ≡ true
-or_right true b other = refl
-or_right false b other = other
-
-either : (a b : Bool) → (a || b) ≡ true → (a ≡ true) ⊎ (b ≡ true)
-either true b one = inl refl
-either false b one = inr one
-
 and_left : (a b : Bool) → (a && b) ≡ true → a ≡ true
 and_left true b one = refl
 and_left false b one = one
@@ -162,7 +151,7 @@ others_exclude-by from (holding ∷ table) session block asked excluded =
       is_another = λ same. by.is_another (omega (arith, same));
       excludes_it = by.excludes_it;
     })
-    (either _ _ excluded)
+    (or_cases _ _ excluded)
 
 -- what is in a latch's way is another session's hold
 pub is_held_by_another-by : (table : Table) (session block : ℕ) (asked : Mode) → is_held_by_another table session block asked ≡ true

@@ -1,7 +1,7 @@
 -- Frames that pages take, one after the other.
 use Rattle.std.proofs.Common.{◌≡◌, ℕ, zero, suc, true, false, Some, List, [], ◌∷◌, ◌++◌, slice_get, refl, sym, ap, subst, inl}
-use Rattle.std.specs.Prelude.{◌==◌, ◌||◌, Bool}
-use Rattle.page_action.proofs.Imports.{eq-eqb, Page, Memory, is_block_among, CostsNothing, TakesFrame, TakesFrames, blocks_of, Backing}
+use Rattle.std.specs.Prelude.{◌==◌}
+use Rattle.page_action.proofs.Imports.{eq-eqb, Page, Memory, is_block_among, CostsNothing, TakesFrame, TakesFrames, blocks_of, Backing, or-true}
 
 pub costs_same : (m : Memory) (b : Backing) → CostsNothing m m b b
 costs_same m b = record {
@@ -40,12 +40,8 @@ takes_rest frames pinned [] others m m' old new same =
 takes_rest frames pinned (b ∷ blocks) others m m' old new first =
     (first.0, first.1, first.2, takes_rest frames pinned blocks others first.0 m' first.1 new first.3)
 
-or_later : (b : Bool) → (b || true) ≡ true
-or_later true = refl
-or_later false = refl
-
 -- the block of a page is among those of all
 pub among_own : (pages : List Page) (k : ℕ) (page : Page) → slice_get pages k ≡ Some page → is_block_among (blocks_of pages) page.block ≡ true
 among_own [] k page at = absurd cc
 among_own (p ∷ pages) zero page at = let e : p ≡ page = cc in rw (eq-eqb p.block page.block (ap (λ (x : Page). x.block) e)) refl
-among_own (p ∷ pages) (suc k) page at = rw (among_own pages k page at) (or_later (p.block == page.block))
+among_own (p ∷ pages) (suc k) page at = rw (among_own pages k page at) (or-true (p.block == page.block))

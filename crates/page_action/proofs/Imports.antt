@@ -1,4 +1,5 @@
 -- What several proofs of this crate import, passed on from one place. Declares nothing.
+pub use Rattle.std.proofs.Math.Bool.{or-true}
 pub use Rattle.std.proofs.lemmas.Bool.{cases_eq, cases_lt, eq-eqb, le-leb, le-ltb, lt-leb, lt-ltb}
 pub use Rattle.std.proofs.lemmas.Option.{get_or_from_slice_get, slice_get_cases, unwrap_or-slice_get}
 pub use Rattle.index_model.specs.declared.format.Format.{Format}

@@ -22,7 +22,7 @@ use Rattle.tree_shape.specs.LinkPlaces.{HasLinks, child_at}
 use Rattle.tree_shape.specs.Nodes.{node_of, links_of}
 use Rattle.tree_acts.specs.Deletions.{LeafIsHalfDead}
 use Rattle.tree_acts.proofs.Dying.{edit as half_death_edit, half_death_lasts, half_death_flags, half_death_dies, half_death_links}
-use Rattle.tree_acts.proofs.Overlays.{inside, page_length}
+use Rattle.tree_acts.proofs.Overlays.{page_length}
 use Rattle.tree_acts.proofs.Removing.{leaf_is}
 use Rattle.tree_acts.specs.StepEffects.{IsInOrder}
 use Rattle.descent.proofs.Acting.{numbers_stay, does_delete}
@@ -31,6 +31,7 @@ use Rattle.page_delete.specs.Judging.{IsHandingOn}
 use Rattle.page_delete.specs.Parts.{IsCandidate, IsTakenToChange, DeletesOn, SiblingsAllow, SiblingsLink}
 use Rattle.page_delete.specs.Spares.{dies as dies_edit}
 use Rattle.page_delete.proofs.Siblings.{siblings}
+use Rattle.page_delete.proofs.Imports.{same_Some, slice_get_within}
 
 -- the pages of the act, as they are written
 pub record AreDying (leaf parent leaf_after parent_after : Page) (at : ℕ) : Type 0 where
@@ -108,12 +109,9 @@ may_die_so st session leaf parent leaf_after parent_after right at few candidate
       (writable st.limits parent_after layout_is parent_page (omega arith), (omega arith, omega arith), tt, tt),
     )
   where
-    some_page : (a b : Page) → Some a ≡ Some b → a ≡ b
-    some_page a b e = cc
-
     apart : leaf.block ≢ parent.block
     apart same =
-        let one : leaf ≡ parent = some_page leaf parent (sym (candidate.found refl) ∙ ap (λ (b : ℕ). slice_get st.pages b) same ∙ taken.found refl) in
+        let one : leaf ≡ parent = same_Some leaf parent (sym (candidate.found refl) ∙ ap (λ (b : ℕ). slice_get st.pages b) same ∙ taken.found refl) in
         links_no_leaf leaf.items candidate.may_die.leaf (subst (λ (p : Page). HasLinks p.items) (sym one) place.internal)
 
 -- as many blocks are in use after it

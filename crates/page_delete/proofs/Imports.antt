@@ -1,5 +1,5 @@
 -- What several proofs of this crate import, passed on from one place. Declares nothing.
-pub use Rattle.std.proofs.lemmas.Bool.{cases_eq}
+pub use Rattle.std.proofs.lemmas.Bool.{cases_eq, false≢true}
 pub use Rattle.index_model.specs.Faults.{HasCause}
 pub use Rattle.index_model.specs.declared.bound.Bound.{Bound}
 pub use Rattle.index_model.specs.declared.fault.Fault.{Fault}
@@ -17,6 +17,7 @@ pub use Rattle.latch_table.specs.declared.mode.Mode.TheVariants.{Cleanup}
 pub use Rattle.page_action.specs.States.{Backing, Continues, IsLater, State, after_act, with_pages}
 pub use Rattle.page_action.specs.Stored.{AreActable, IsStored}
 pub use Rattle.page_action.specs.declared.page_store.PageStore.{Ghosts}
+pub use Rattle.std.proofs.lemmas.Option.{same_Some, slice_get_within}
 pub use Rattle.tree_shape.proofs.Members.{apart_back, apart_sides, in_append_left, in_append_right, member, not_in_apart}
 pub use Rattle.tree_shape.specs.Chains.{AreDistinct, IsIn, IsRunOf, IsTreeOf, LeftContext, first_context, past, context_after}
 pub use Rattle.tree_shape.specs.Deletion.{MayDie, as_deleted}
@@ -24,7 +25,7 @@ pub use Rattle.tree_shape.specs.LinkPlaces.{HasLinks, child_at, with_downlinks}
 pub use Rattle.tree_shape.specs.Nodes.{Node, links_of, node_from, node_of, nodes_of}
 pub use Rattle.tree_shape.specs.Walks.{IsTrail, bound_aim, over, reached}
 pub use Rattle.tree_acts.proofs.Lasting.{deleted_in_use, meta_lives}
-pub use Rattle.tree_acts.proofs.Overlays.{inside, node_there, pages_first, pages_other, pages_second, pages_third}
+pub use Rattle.tree_acts.proofs.Overlays.{node_there, pages_first, pages_other, pages_second, pages_third}
 pub use Rattle.tree_acts.proofs.Removing.{leaf_begins_trail, leaf_is}
 pub use Rattle.tree_acts.specs.Deletions.{IsCompleteAt, StartsAreBelow, state_in}
 pub use Rattle.tree_acts.specs.Leaves.{IsLeafAt, WasLeaf}

@@ -6,7 +6,7 @@ use Rattle.tree_shape.proofs.Runs.{run_front, run_back, SplitAt, split_at}
 use Rattle.tree_shape.proofs.Unlink.{left_in}
 use Rattle.tree_acts.proofs.Words.{trail_in}
 use Rattle.page_delete.proofs.Imports.{IsPage, Page, HalfDead, Deleted, State, Node, node_of, nodes_of, IsRunOf, LeftContext, past, context_after, first_context, IsIn, AreDistinct, apart_sides}
-use Rattle.page_delete.proofs.Imports.{apart_back, not_in_apart, in_append_left, in_append_right, IsTrail, reached, over, HasTree, HasTrail, deleted_in_use, inside, node_there, LinksRight}
+use Rattle.page_delete.proofs.Imports.{apart_back, not_in_apart, in_append_left, in_append_right, IsTrail, reached, over, HasTree, HasTrail, deleted_in_use, node_there, LinksRight, same_Some, slice_get_within}
 use Rattle.page_delete.proofs.Imports.{LinksLeft, SiblingsLink}
 
 -- a block in use has a page
@@ -15,12 +15,9 @@ some_at [] c lt = absurd (omega arith)
 some_at (p ∷ pages) zero lt = (p, refl)
 some_at (p ∷ pages) (suc c) lt = some_at pages c (omega arith)
 
-pub some_is : (a b : ℕ) → Some a ≡ Some b → a ≡ b
-some_is a b e = cc
-
 -- the page right before some page leads to it
 last_right : (at : ℕ → Node) (level : ℕ) (s : LeftContext) (x : ℕ) (xs : List ℕ) (l b : ℕ) → IsRunOf at level s (x ∷ xs) (Some b) → (context_after at s (x ∷ xs)).left ≡ Some l → (at l).right ≡ Some b
-last_right at level s x [] l b run is = ap (λ (c : ℕ). (at c).right) (sym (some_is x l is)) ∙ run.0.right_is
+last_right at level s x [] l b run is = ap (λ (c : ℕ). (at c).right) (sym (same_Some x l is)) ∙ run.0.right_is
 last_right at level s x (y ∷ ys) l b run is = last_right at level (past x (at x) s) y ys l b run.1 is
 
 left_leads : (at : ℕ → Node) (level : ℕ) (xs : List ℕ) (l b : ℕ) → IsRunOf at level first_context xs (Some b) → (context_after at first_context xs).left ≡ Some l → (at l).right ≡ Some b
@@ -33,7 +30,7 @@ next_left at level s b [] r run is = absurd (no_link (sym run.0.right_is ∙ is)
   where
     no_link : None ≡ Some r → ⊥
     no_link e = cc
-next_left at level s b (x ∷ xs) r run is = ap (λ (c : ℕ). (at c).left) (sym (some_is x r (sym run.0.right_is ∙ is))) ∙ run.1.0.left_is
+next_left at level s b (x ∷ xs) r run is = ap (λ (c : ℕ). (at c).left) (sym (same_Some x r (sym run.0.right_is ∙ is))) ∙ run.1.0.left_is
 
 -- a page to which a walk has come is in use
 pub trail_in_use : (st : State) (start level block moves : ℕ) → HasTree st → HasTrail st start level block moves → block < length st.pages
@@ -51,7 +48,7 @@ module _ (st : State) (has : HasTree st) (page : Page) (found : slice_get st.pag
   level = (nodes_of st.pages page.block).level
 
   pub stands : (level ≤ has.tree.meta.level) × IsIn page.block (has.tree.chain level)
-  stands = has.tree.is.placed page.block above (inside st.pages page.block page found) (λ gone. alive (sym (ap (λ (n : Node). n.state) here) ∙ gone))
+  stands = has.tree.is.placed page.block above (slice_get_within st.pages page.block page found) (λ gone. alive (sym (ap (λ (n : Node). n.state) here) ∙ gone))
 
   w : SplitAt page.block (has.tree.chain level)
   w = split_at page.block (has.tree.chain level) stands.1

@@ -11,12 +11,9 @@ use Rattle.tree_acts.proofs.Dying.{whole_from}
 use Rattle.page_delete.proofs.Siblings.{some_at, siblings}
 use Rattle.page_delete.proofs.Imports.{cases_eq, Bound, Holding, Table, holding_of, nothing_held, holding_excludes, others_exclude, is_held_by_another, Cleanup, HasEntries, IsPage, IsOfKind}
 use Rattle.page_delete.proofs.Imports.{IsLeafIn, Downlink, Items, Meta, Entries, Downlinks, Page, PageState, Live, HalfDead, Deleted, State, IsIn, IsTreeOf, first_context, MayDie, HasLinks, Node}
-use Rattle.page_delete.proofs.Imports.{node_of, nodes_of, links_of, member, in_append_right, IsCompleteAt, state_in, HasTree, node_there, inside, leaf_is, IsInOrder, IsToDie, IsHandingPlace}
+use Rattle.page_delete.proofs.Imports.{node_of, nodes_of, links_of, member, in_append_right, IsCompleteAt, state_in, HasTree, node_there, leaf_is, IsInOrder, IsToDie, IsHandingPlace, same_Some, slice_get_within}
 use Rattle.page_delete.proofs.Imports.{NothingIsSpared, turned_to, moved_past, moved_past_deleted, TurnsAt, unlinks, tries, passes, LeafDies, PageIsDeleted, LinksLeft, IsAlone, IsEmptyLeaf}
 use Rattle.page_delete.proofs.Imports.{HasToStay, MayGo, MayGoFrom, IsSought, IsSparing, OnlyNeededStay, EditsALeaf, dies, goes, CleanupAt, Look, Start, Judge, Unlink, CleanupOp}
-
-some_is : (a b : ℕ) → Some a ≡ Some b → a ≡ b
-some_is a b e = cc
 
 live_dead : {s : PageState} → s ≡ Live → s ≡ HalfDead → ⊥
 live_dead a b = cc
@@ -165,16 +162,13 @@ judged_stays st session block parent order alone none m not_to_die = with_right 
         none_there : (page : Page) → None ≡ Some page → page.split ≡ false
         none_there page e = cc
 
-        same : (a b : Page) → Some a ≡ Some b → a ≡ b
-        same a b e = cc
-
         by : (o : Option Page) → slice_get st.pages l ≡ o → IsCompleteAt st.pages (Some l) ⊎ HasToStay st block
         by None gone = inl (λ page found. none_there page (sym gone ∙ found))
         by (Some p) there = flag p.split refl
           where
             flag : (w : Bool) → p.split ≡ w → IsCompleteAt st.pages (Some l) ⊎ HasToStay st block
             flag true split = inr (behind l (ap (λ (n : Node). n.left) here ∙ is) (ap (λ (n : Node). n.split) (node_there st.pages l p there) ∙ split))
-            flag false split = inl (λ page found. ap (λ (q : Page). q.split) (same page p (sym found ∙ there)) ∙ split)
+            flag false split = inl (λ page found. ap (λ (q : Page). q.split) (same_Some page p (sym found ∙ there)) ∙ split)
 
     with_right : (o : Option ℕ) → m.leaf.leaf.right ≡ o → IsSome o → HasToStay st block
     with_right None is some = cc
@@ -182,7 +176,7 @@ judged_stays st session block parent order alone none m not_to_die = with_right 
       where
         beside : IsCompleteAt st.pages m.leaf.leaf.left → HasToStay st block
         beside whole = elim (complete_leaf_has_both_links (nodes_of st.pages) (length st.pages) m.above.tree.root m.above.tree.meta.level m.above.tree.chain block r parent m.high m.above.tree.is
-            (let a = m.above.in_tree in omega (arith, a)) above (inside st.pages block m.leaf.leaf m.leaf.found) whole_leaf m.above.covers) [
+            (let a = m.above.in_tree in omega (arith, a)) above (slice_get_within st.pages block m.leaf.leaf m.leaf.found) whole_leaf m.above.covers) [
               | inl both ↦ absurd (not_to_die (dying both))
               | inr stays ↦ stays
             ]
@@ -267,7 +261,7 @@ no_root_leaf st block high has low m = by m.leaf.right refl m.may_die.right
     by None is some = cc
     by (Some r) is some = root_leaf_is_not_complete (nodes_of st.pages) (length st.pages) has.tree.root has.tree.chain block r
         (subst (λ (top : ℕ). IsTreeOf (nodes_of st.pages) (length st.pages) has.tree.root top has.tree.chain) low has.tree.is)
-        (subst (λ (b : ℕ). 0 < b) (block_at st block m.leaf has m.found) stands.0) (inside st.pages block m.leaf m.found)
+        (subst (λ (b : ℕ). 0 < b) (block_at st block m.leaf has m.found) stands.0) (slice_get_within st.pages block m.leaf m.found)
         (ap (λ (n : Node). n.state) here ∙ m.may_die.alive) (ap (λ (n : Node). n.level) here ∙ stands.1) (ap (λ (n : Node). n.split) here ∙ m.may_die.whole) (ap (λ (n : Node). n.right) here ∙ is)
 
 -- the cleanup knows of no half-dead page, unless it is to unlink one

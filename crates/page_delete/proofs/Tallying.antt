@@ -1,7 +1,7 @@
 -- How many pages are deleted after a step of a cleanup.
 use Rattle.std.proofs.Common.{◌≡◌, ◌≢◌, ℕ, zero, suc, ◌+◌, ◌<◌, inl, inr, Bool, true, false, if◌then◌else◌, Option, Some, None, List, length, slice_get, refl, sym, ap, ◌∙◌, arith}
 use Rattle.page_action.specs.Reuse.{is_deleted_state, is_deleted_page, is_deleted}
-use Rattle.page_delete.proofs.Imports.{cases_eq, Page, Live, HalfDead, State, node_from, nodes_of, inside, deleted_count, deleted_in, LeafDies, PageIsDeleted}
+use Rattle.page_delete.proofs.Imports.{cases_eq, Page, Live, HalfDead, State, node_from, nodes_of, deleted_count, deleted_in, LeafDies, PageIsDeleted, slice_get_within}
 
 -- the state of a page tells whether it is deleted
 told_by_state : (pages : List Page) (b : ℕ) → is_deleted pages b ≡ is_deleted_state (nodes_of pages b).state
@@ -50,7 +50,7 @@ dead_inside pages b dead = by (slice_get pages b) refl
 
     by : (o : Option Page) → slice_get pages b ≡ o → b < length pages
     by None is = absurd (clash (sym (ap (λ (o : Option Page). (node_from o).state) is) ∙ dead))
-    by (Some page) is = inside pages b page is
+    by (Some page) is = slice_get_within pages b page is
 
 -- how many pages are deleted is of the pages alone
 pub deleted_alike : (old new : State) → new.pages ≡ old.pages → deleted_in new ≡ deleted_in old

@@ -1,7 +1,7 @@
 -- What is left to do gets less.
 use Rattle.std.proofs.Common.{◌≡◌, ℕ, zero, suc, ◌+◌, ◌*◌, ◌<◌, ◌≤◌, Bool, true, false, ◌&&◌, if◌then◌else◌, Some, List, [], ◌∷◌, length, slice_get, refl, ap, ◌∙◌, arith}
 use Rattle.std.proofs.Math.Nat.{mul_comm}
-use Rattle.scan.proofs.Imports.{mul-add-lt, Bound, Page, Live, IsNoGreater, is_live, frontier_aim, is_within, walk_length, frontier_past, is_ahead, count_ahead}
+use Rattle.scan.proofs.Imports.{mul-add-lt, Bound, Page, Live, IsNoGreater, is_live, frontier_aim, is_within, walk_length, frontier_past, is_ahead, count_ahead, false≢true}
 use Rattle.scan.proofs.Behind.{within_falls, high_is_passed}
 
 counted : Bool → ℕ → ℕ
@@ -27,10 +27,7 @@ module _ (f g : Bound) (le : IsNoGreater f g) where
   one_falls : (v w : Bool) (m n : ℕ) → (w ≡ true → v ≡ true) → n ≤ m → (if w then suc n else n) ≤ (if v then suc m else m)
   one_falls true true m n f le = omega arith
   one_falls true false m n f le = omega arith
-  one_falls false true m n f le = absurd (clash (f refl))
-    where
-      clash : false ≡ true → ⊥
-      clash e = cc
+  one_falls false true m n f le = absurd (false≢true (f refl))
   one_falls false false m n f le = le
 
   pub count_falls : (pages : List Page) → count_ahead g pages ≤ count_ahead f pages
@@ -45,10 +42,7 @@ module _ (f g : Bound) (le : IsNoGreater f g) where
   one_drops_on : (v w : Bool) (m n : ℕ) → (w ≡ true → v ≡ true) → n < m → (if w then suc n else n) < (if v then suc m else m)
   one_drops_on true true m n f lt = omega arith
   one_drops_on true false m n f lt = omega arith
-  one_drops_on false true m n f lt = absurd (clash (f refl))
-    where
-      clash : false ≡ true → ⊥
-      clash e = cc
+  one_drops_on false true m n f lt = absurd (false≢true (f refl))
   one_drops_on false false m n f lt = lt
 
   pub count_drops : (pages : List Page) (b : ℕ) (page : Page) → slice_get pages b ≡ Some page → is_ahead f page ≡ true → is_ahead g page ≡ false → count_ahead g pages < count_ahead f pages

@@ -1,5 +1,5 @@
 -- What several proofs of this crate import, passed on from one place. Declares nothing.
-pub use Rattle.std.proofs.lemmas.Bool.{and_parts, cases_Bool, eq-eqb, eqb-true, leb-true, lt-ltb, ltb-true}
+pub use Rattle.std.proofs.lemmas.Bool.{and_parts, cases_Bool, eq-eqb, eqb-true, false≢true, leb-true, lt-ltb, ltb-true}
 pub use Rattle.std.proofs.lemmas.Nat.{mul-add-lt, mul-le}
 pub use Rattle.index_model.specs.Faults.{HasCause}
 pub use Rattle.index_model.specs.Formats.{sizes_of}
@@ -17,6 +17,7 @@ pub use Rattle.page_codec.specs.declared.page.Page.{Page}
 pub use Rattle.page_codec.specs.declared.page.PageState.TheVariants.{Live}
 pub use Rattle.latch_table.specs.Holdings.{HasRoom, Holding, Table, has_pin, holding_of, is_held_by_another, pinned, without_pin}
 pub use Rattle.page_action.specs.States.{Backing, Continues, IsLater, State, with_table}
+pub use Rattle.std.proofs.lemmas.Option.{same_Some}
 pub use Rattle.tree_shape.specs.Chains.{IsIn, IsNoGreater}
 pub use Rattle.tree_shape.specs.Leaf.{IsCopiedFrom}
 pub use Rattle.tree_shape.specs.Nodes.{Node, is_live, node_of}

@@ -2,7 +2,7 @@
 use Rattle.std.proofs.Common.{◌≡◌, ℕ, Bool, true, false, not, ◌&&◌, if◌then◌else◌, Option, Some, None, List, slice_get, IsSome, ◌↔◌, inl, inr, refl, sym, ap, subst, ◌∙◌}
 use Rattle.index_model.proofs.Ascending.{AllByRecursion-among}
 use Rattle.page_action.specs.Contents.{entry_on_live_leaf}
-use Rattle.scan.proofs.Imports.{cases_Bool, and_parts, is_among, is_past, IsUpTo, from_admits, below_admits, Bound, Entry, entries_of, IsLiveLeaf, Page, State, IsCopiedFrom, entry_aim}
+use Rattle.scan.proofs.Imports.{cases_Bool, and_parts, is_among, is_past, IsUpTo, from_admits, below_admits, Bound, Entry, entries_of, IsLiveLeaf, Page, State, IsCopiedFrom, entry_aim, false≢true}
 use Rattle.scan.proofs.Imports.{frontier_aim, is_within, HasTree, HasCover, leaf_shows, frontier_shows, Position, IsAfter, LeafIsRead, behind, after_leaf, frontier_past, ScanAt, At, Last, ScanOp}
 use Rattle.scan.proofs.Behind.{not_back, past_high, behind_stays, within_high, below_high}
 
@@ -20,10 +20,7 @@ behind_after g (Some high) (Some right) below e h = go (below_admits below high.
 within_after : (f : Bound) (high : Option Bound) (right : Option ℕ) (below : Option (List ℕ)) (e : Entry) → IsSome high ↔ IsSome right → is_past f e ≡ true → below_admits below e.key ≡ true
     → IsAfter (frontier_past f high) (after_leaf high right below) e → is_within (entry_aim e) high ≡ true
 within_after f None right below e linked beyond inside h = refl
-within_after f (Some high) None below e linked beyond inside h = absurd (clash (linked.0 refl))
-  where
-    clash : false ≡ true → ⊥
-    clash e = cc
+within_after f (Some high) None below e linked beyond inside h = absurd (false≢true (linked.0 refl))
 within_after f (Some high) (Some right) below e linked beyond inside h = go (below_admits below high.key) refl h
   where
     go : (w : Bool) → below_admits below high.key ≡ w → IsAfter (frontier_past f (Some high)) (if w then At (record { block = right; level = 0; moves = 1 }) else Last) e → not (is_past high e) ≡ true

@@ -1,8 +1,8 @@
 -- What the steps of a scan leave it.
 use Rattle.std.proofs.Common.{◌≡◌, ℕ, ◌+◌, ◌<◌, ◌≤◌, Bool, true, false, if◌then◌else◌, Option, Some, None, List, length, slice_get, inr, refl, sym, ap, subst, ◌∙◌, arith}
 use Rattle.tree_shape.specs.Laws.{IsPassedBy}
-use Rattle.scan.proofs.Imports.{below_admits, Bound, Entry, Table, pinned, Page, State, with_table, node_of, frontier_aim, is_within, WasLeaf, HasTree, LeadsTo, RightIsThere, passed_shows}
-use Rattle.scan.proofs.Imports.{places_widen, trail_begins_here, trail_moves_right, IsOnDescent, IsArrived, IsShorter, way_left, IsInOrder, StepEffect, Position, holds_else, walk_is_long}
+use Rattle.scan.proofs.Imports.{below_admits, Bound, Entry, Table, pinned, Page, State, with_table, node_of, frontier_aim, is_within, WasLeaf, HasTree, LeadsTo, RightIsThere, passed_shows, false≢true}
+use Rattle.scan.proofs.Imports.{places_widen, trail_begins_here, trail_moves_right, IsOnDescent, IsArrived, IsShorter, way_left, IsInOrder, StepEffect, Position, holds_else, walk_is_long, same_Some}
 use Rattle.scan.proofs.Imports.{way_shortens, waiting, without_leaf, moved_to, behind, after_leaf, frontier_past, ScanStands, ScanInvariant, scan_left, leaves_left, scan_walk_left, count_ahead}
 use Rattle.scan.proofs.Imports.{is_ahead, ScanAt, Start, At, Last, ScanOp}
 use Rattle.scan.proofs.Behind.{not_back, aim_widens, past_falls, high_is_passed}
@@ -44,18 +44,12 @@ way_after st start f page high right h found place high_is right_is = go (passed
     wide = places_widen st start 0 (frontier_aim f) aim false false page.block (aim_widens f (frontier_past f (Some high)) (not_back f (Some high))) (λ e. e) place
 
     passed : IsPassedBy aim false (node_of page)
-    passed = record { why = inr (ap (is_within aim) high_is ∙ high_is_passed f high); whole = λ e. absurd (clash e) }
-      where
-        clash : false ≡ true → ⊥
-        clash e = cc
-
-    some_is : (a b : ℕ) → Some a ≡ Some b → a ≡ b
-    some_is a b e = cc
+    passed = record { why = inr (ap (is_within aim) high_is ∙ high_is_passed f high); whole = λ e. absurd (false≢true e) }
 
     go : RightIsThere st start 0 aim false page → IsOnDescent st start aim false 0 (record { block = right; level = 0; moves = 1 })
     go r = record {
       not_below = omega arith;
-      place = subst (LeadsTo st start 0 aim false) (some_is r.to right (sym r.right_is ∙ right_is)) r.place;
+      place = subst (LeadsTo st start 0 aim false) (same_Some r.to right (sym r.right_is ∙ right_is)) r.place;
       trail = trail_moves_right st start 0 0 right page h found right_is (trail_begins_here st start 0 (frontier_aim f) false page.block h place);
     }
 

@@ -1,5 +1,5 @@
 -- What the acts by which splits are finished leave to the call.
-use Rattle.std.proofs.Common.{◌≡◌, ℕ, suc, ◌==◌, if◌then◌else◌, Bool, true, false, Some, None, Ok, Err, List, map, slice_get, refl, sym, ap, subst, inr, ◌∙◌, arith}
+use Rattle.std.proofs.Common.{◌≡◌, ℕ, suc, ◌==◌, if◌then◌else◌, Bool, true, false, true≢false, Some, None, Ok, Err, List, map, slice_get, refl, sym, ap, subst, inr, ◌∙◌, arith}
 use Rattle.split_finish.proofs.Imports.{eq-eqb, Shape, HasCause, Fault, Page, State, Backing, Continues, after_act, Ghosts, bound_aim, bound_falls, TreeLasts, FlagsMove, IsInOrder, StepEffect}
 use Rattle.split_finish.proofs.Imports.{is_incomplete, causes_of_acting, one_act, act_cause_of, FinishInvariant, IsTarget, Popped, splits_root_of, FinishStepped, finish_blocks, takes_block_of}
 use Rattle.split_finish.proofs.Imports.{FinishActs, FinishOp, FinishStep, Going, Done, Target}
@@ -43,10 +43,7 @@ if_false false x h = (refl, h)
 pub only_cleared : (old new : State) (cleared : ℕ) → FlagsMove None (Some cleared) old new → (block : ℕ) → is_incomplete new block ≡ true → (is_incomplete old block ≡ true) × (cleared ≡ block → ⊥)
 only_cleared old new cleared moves block h =
     let k = if_false (block == cleared) (is_incomplete old block) (sym (moves block) ∙ h) in
-    (k.1, λ same. no (sym (eq-eqb block cleared (sym same)) ∙ k.0))
-  where
-    no : true ≡ false → ⊥
-    no e = cc
+    (k.1, λ same. true≢false (sym (eq-eqb block cleared (sym same)) ∙ k.0))
 
 -- an act that clears the newest target, and nothing more
 pub clears : (old new : State) (old_backing new_backing : Backing) (op after : FinishOp) (step : FinishStep) → (fits : FinishInvariant old op)

@@ -3,7 +3,7 @@ use Rattle.std.proofs.Common.{◌≡◌, ℕ, suc, ◌<◌, ◌≤◌, Bool, tru
 use Rattle.split_finish.proofs.Standing.{incomplete_has, incomplete_block, right_block, high_bound, fresh_not_live}
 use Rattle.split_finish.proofs.Doing.{clears}
 use Rattle.split_finish.proofs.Imports.{is_held_by_another, Exclusive, IsBlock, count_of, Items, Page, Live, IsFresh, State, Backing, after_act, writable, IsMetaOf, IsIncompleteSplit, MayActWith}
-use Rattle.split_finish.proofs.Imports.{RootIsSplit, FlagsMove, HasTree, root_split_leaves, root_split_lasts, root_split_flags, root_split_weighs, inside, node_there, IsInOrder, does_finish}
+use Rattle.split_finish.proofs.Imports.{RootIsSplit, FlagsMove, HasTree, root_split_leaves, root_split_lasts, root_split_flags, root_split_weighs, node_there, IsInOrder, does_finish, slice_get_within}
 use Rattle.split_finish.proofs.Imports.{FinishInvariant, IsReadyToGrow, Popped, FinishStepped, AreGrown, IsReadToChange, FinishOp, FinishStep, Node}
 
 module _ (st : State) (op : FinishOp) (honest : Bool) (meta page : Page) (new fresh : ℕ) (pages : List Page) (order : IsInOrder st) (fits : FinishInvariant st op) (sound : honest ≡ true)
@@ -29,8 +29,8 @@ module _ (st : State) (op : FinishOp) (honest : Bool) (meta page : Page) (new fr
   may_grow =
       let blocked = incomplete_block page read.stored.storable.admitted ready.incomplete in
       let meta_at : grown.meta_after.block ≡ 0 = grown.meta_block ∙ read_meta.stored.block_is in
-      let meta_in = inside st.pages 0 meta (read_meta.found sound) in
-      let page_in = inside st.pages page.block page found in
+      let meta_in = slice_get_within st.pages 0 meta (read_meta.found sound) in
+      let page_in = slice_get_within st.pages page.block page found in
       let page_at = grown.clear.block_is in
       let root_at = grown.root_block in (
         writable st.limits grown.root grown.root_layout

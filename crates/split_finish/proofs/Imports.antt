@@ -1,7 +1,8 @@
 -- What several proofs of this crate import, passed on from one place. Declares nothing.
 pub use Rattle.std.proofs.Math.Nat.{mul-le-mul_right}
-pub use Rattle.std.proofs.lemmas.Bool.{and_from, and_parts, cases_eq, eq-eqb, eqb-true, le-leb, lt-leb, lt-ltb, ltb-true, ne_eqb}
+pub use Rattle.std.proofs.lemmas.Bool.{and_from, and_parts, cases_eq, eq-eqb, eqb-true, false≢true, le-leb, lt-leb, lt-ltb, ltb-true, ne_eqb, not-true, or_cases, or_left, or_right}
 pub use Rattle.std.proofs.lemmas.Bool.Decides.{eqb_tells}
+pub use Rattle.std.proofs.lemmas.Option.{same_Some, slice_get_within}
 pub use Rattle.std.specs.Ordering.{is_eq, ordering_index}
 pub use Rattle.std.specs.Prelude.{All, IfSome, IsSome, OnErr, OnOk, slice_index_or}
 pub use Rattle.index_model.proofs.Order.{bounds_total, exact_bounds}
@@ -35,7 +36,7 @@ pub use Rattle.tree_acts.proofs.Finishing.{finish_lasts, parent_edit, parent_spl
 pub use Rattle.tree_acts.proofs.Flagging.{finish_flags, parent_split_flags, root_split_flags}
 pub use Rattle.tree_acts.proofs.Leaving.{finish_leaves, parent_split_leaves, root_split_leaves}
 pub use Rattle.tree_acts.proofs.Meanings.{high_key_shows, live_shows, metapage_shows, neighbour_shows, parent_shows, place_inside, root_shows, separator_shows, trail_begins_here}
-pub use Rattle.tree_acts.proofs.Overlays.{inside, node_there, pages_first}
+pub use Rattle.tree_acts.proofs.Overlays.{node_there, pages_first}
 pub use Rattle.tree_acts.proofs.Sizes.{low_level}
 pub use Rattle.tree_acts.proofs.Weighed.{finish_weighs, parent_split_weighs, root_split_weighs}
 pub use Rattle.tree_acts.specs.Acts.{IsClear, IsIncompleteSplit, IsMended, MayActWith, ParentIsSplit, RootIsSplit, SplitIsFinished, TreeLasts}

@@ -1,8 +1,8 @@
 -- A downlink on a parent with room: what the act is, and what it leaves.
 use Rattle.std.proofs.Common.{◌≡◌, ◌&&◌, ◌==◌, not, ℕ, suc, ◌<◌, ◌≤◌, Bool, true, false, Some, None, Ok, List, [], ◌∷◌, length, slice_get, refl, sym, ap, subst, ◌∙◌, arith}
 use Rattle.split_finish.proofs.Imports.{and_parts, eqb-true, Bound, is_held_by_another, Exclusive, count_of, Items, Page, PageState, Live, HalfDead, Deleted, State, Backing, after_act, writable}
-use Rattle.split_finish.proofs.Imports.{Node, node_of, links_of, is_live, bound_aim, is_within, IsIncompleteSplit, MayActWith, SplitIsFinished, FlagsMove, HasTree, LeadsTo, HasCover}
-use Rattle.split_finish.proofs.Imports.{finish_leaves, finish_lasts, finish_flags, finish_weighs, inside, node_there, live_shows, IsInOrder, Position, does_finish, FinishInvariant, FinishStands}
+use Rattle.split_finish.proofs.Imports.{Node, node_of, links_of, is_live, bound_aim, is_within, IsIncompleteSplit, MayActWith, SplitIsFinished, FlagsMove, HasTree, LeadsTo, HasCover, not-true}
+use Rattle.split_finish.proofs.Imports.{finish_leaves, finish_lasts, finish_flags, finish_weighs, node_there, live_shows, IsInOrder, Position, does_finish, FinishInvariant, FinishStands, slice_get_within}
 use Rattle.split_finish.proofs.Imports.{is_ready, IsReadyToLink, Popped, FinishStepped, IsReadToChange, Link, FinishOp, FinishStep}
 use Rattle.split_finish.proofs.Standing.{right_block, high_bound}
 use Rattle.split_finish.proofs.Doing.{clears}
@@ -12,10 +12,6 @@ pub live_is : (s : PageState) → is_live s ≡ true → s ≡ Live
 live_is Live h = refl
 live_is HalfDead h = absurd cc
 live_is Deleted h = absurd cc
-
-pub not_is : (b : Bool) → not b ≡ true → b ≡ false
-not_is false h = refl
-not_is true h = absurd cc
 
 -- what it is to be ready
 pub record IsParent (node : Node) (level : ℕ) (separator : Bound) : Type 0 where
@@ -29,7 +25,7 @@ ready_is node level separator h =
     let a = and_parts (is_live node.state && not node.split && (node.level == level)) (is_within (bound_aim separator) node.high) h in
     let b = and_parts (is_live node.state && not node.split) (node.level == level) a.0 in
     let c = and_parts (is_live node.state) (not node.split) b.0 in
-    record { alive = live_is node.state c.0; whole = not_is node.split c.1; level_is = eqb-true node.level level b.1; within = a.1 }
+    record { alive = live_is node.state c.0; whole = not-true node.split c.1; level_is = eqb-true node.level level b.1; within = a.1 }
 
 -- the target and its parent, as they were read in a tree
 module _ (st : State) (op : FinishOp) (honest : Bool) (position : Position) (page parent : Page) (new : ℕ) (order : IsInOrder st) (fits : FinishInvariant st op) (sound : honest ≡ true)
@@ -80,8 +76,8 @@ module _ (st : State) (op : FinishOp) (honest : Bool) (position : Position) (pag
     (linked : AreLinked parent page op.target.separator new pages) where
   pub may_link : MayActWith st (linked.parent_after ∷ linked.page_after ∷ [])
   may_link =
-      let page_in = inside st.pages page.block page (found st op honest position page parent new order fits sound at read read_parent ready right) in
-      let parent_in = inside st.pages parent.block parent (parent_found st op honest position page parent new order fits sound at read read_parent ready right) in
+      let page_in = slice_get_within st.pages page.block page (found st op honest position page parent new order fits sound at read read_parent ready right) in
+      let parent_in = slice_get_within st.pages parent.block parent (parent_found st op honest position page parent new order fits sound at read read_parent ready right) in
       let page_at = linked.clear.block_is in
       let parent_at = linked.block_is in
       let count = linked.count in (

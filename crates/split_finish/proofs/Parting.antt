@@ -1,18 +1,18 @@
 -- A full parent is split.
-use Rattle.std.proofs.Common.{◌≡◌, ◌≢◌, ℕ, suc, ◌+◌, ◌<◌, ◌≤◌, ◌&&◌, ◌||◌, ◌==◌, not, Bool, true, false, Option, Some, None, Ok, List, [], ◌∷◌, ◌++◌, length, slice_get, refl, sym, ap, subst, inl, inr, ◌∙◌, arith, eq-eqb}
+use Rattle.std.proofs.Common.{◌≡◌, ◌≢◌, ℕ, suc, ◌+◌, ◌<◌, ◌≤◌, ◌&&◌, ◌==◌, not, Bool, true, false, true≢false, Option, Some, None, Ok, List, [], ◌∷◌, ◌++◌, length, slice_get, refl, sym, ap, subst, inl, inr, ◌∙◌, arith, eq-eqb}
 use Rattle.tree_acts.specs.Acts.IsMended.{rightmost, neighbour}
 use Rattle.tree_shape.specs.Halves.{left_count}
 use Rattle.split_finish.proofs.Standing.{incomplete_has}
 use Rattle.descent.proofs.Mended.{fresh_apart, RightMay, right_may}
-use Rattle.split_finish.proofs.Imports.{cases_eq, and_parts, eqb-true, ne_eqb, Shape, Bound, is_held_by_another, Exclusive, IsBlock, IsPage, count_of, Page, Live, Deleted, IsFresh, State}
-use Rattle.split_finish.proofs.Imports.{Continues, after_act, IsWritable, IsApartFrom, AreActable, Ghosts, Two, writable, LinkSplit, HasLinks, Node, node_of, links_of, is_live, bound_aim}
+use Rattle.split_finish.proofs.Imports.{cases_eq, and_parts, eqb-true, ne_eqb, Shape, Bound, is_held_by_another, Exclusive, IsBlock, IsPage, count_of, Page, Live, Deleted, IsFresh, State, not-true, or_right}
+use Rattle.split_finish.proofs.Imports.{Continues, after_act, IsWritable, IsApartFrom, AreActable, Ghosts, Two, writable, LinkSplit, HasLinks, Node, node_of, links_of, is_live, bound_aim, same_Some, slice_get_within}
 use Rattle.split_finish.proofs.Imports.{is_within, bound_falls, ParentIsSplit, IsMended, IsClear, FlagsMove, flag_after, LeadsTo, IsStart, parent_split_lasts, parent_edit, parent_split_leaves}
-use Rattle.split_finish.proofs.Imports.{parent_split_flags, parent_split_weighs, pages_first, node_there, inside, IsOnDescent, high_key_shows, neighbour_shows, IsInOrder, StepEffect}
+use Rattle.split_finish.proofs.Imports.{parent_split_flags, parent_split_weighs, pages_first, node_there, IsOnDescent, high_key_shows, neighbour_shows, IsInOrder, StepEffect}
 use Rattle.split_finish.proofs.Imports.{is_incomplete, RightIsMendable, RightIsStored, RightIsFound, mended_to, Position, AreFree, does_finish, one_act, IsReadToChange, FinishActs, halves_and}
 use Rattle.split_finish.proofs.Imports.{targets_of, is_among_targets, OnlyTargetsAreIncomplete, IsTarget, FinishStands, FinishInvariant, is_ready, IsReadyToLink, Start, Link, FinishOp, Going}
 use Rattle.split_finish.proofs.Imports.{Target}
 use Rattle.split_finish.proofs.InPlace.{links_count}
-use Rattle.split_finish.proofs.Linking.{live_is, not_is}
+use Rattle.split_finish.proofs.Linking.{live_is}
 use Rattle.split_finish.proofs.Turning.{among_more, among_fewer}
 
 -- what a parent is that is ready
@@ -29,7 +29,7 @@ ready_parent page level separator h =
     let a = and_parts (is_live page.state) (not page.split) b.0 in
     record {
       alive = live_is page.state a.0;
-      whole = not_is page.split a.1;
+      whole = not-true page.split a.1;
       level_is = eqb-true page.level level b.1;
       within = c.1;
     }
@@ -49,20 +49,13 @@ free_beside st session new (Some r) None rest stored free = absurd stored
 free_beside st session new (Some r) (Some page) rest stored free =
     (subst (λ (b : ℕ). is_held_by_another st.table session b Exclusive ≡ false) (sym stored.0.block_is) stored.2, free)
 
-true_false : true ≡ false → ⊥
-true_false h = cc
-
 among_end : (ts : List Target) (t : Target) (b : ℕ) → t.block ≡ b → is_among_targets (ts ++ t ∷ []) b ≡ true
 among_end [] t b is = rw (eq-eqb t.block b is) refl
-among_end (x ∷ ts) t b is = or_there (x.block == b) (is_among_targets (ts ++ t ∷ []) b) (among_end ts t b is)
-  where
-    or_there : (a c : Bool) → c ≡ true → (a || c) ≡ true
-    or_there true c h = refl
-    or_there false c h = h
+among_end (x ∷ ts) t b is = or_right (x.block == b) (is_among_targets (ts ++ t ∷ []) b) (among_end ts t b is)
 
 raised_block : (q p b : ℕ) (was : Bool) → b ≢ q → flag_after (Some q) (Some p) b was ≡ true → (b ≢ p) × (was ≡ true)
 raised_block q p b was not_q h = elim (cases_eq b p) [
-  | inl is_p ↦ absurd (true_false (sym h ∙ rw (ne_eqb b q not_q, eq-eqb b p is_p) refl))
+  | inl is_p ↦ absurd (true≢false (sym h ∙ rw (ne_eqb b q not_q, eq-eqb b p is_p) refl))
   | inr not_p ↦ (not_p, sym (rw (ne_eqb b q not_q, ne_eqb b p not_p) refl) ∙ h)
 ]
 
@@ -245,8 +238,8 @@ parts_may st session op position page parent left half clear right new order fit
     let at_parent : parent.block ≡ position.block = h.read_parent.stored.block_is in
     let found : slice_get st.pages page.block ≡ Some page = subst (λ (b : ℕ). slice_get st.pages b ≡ Some page) (sym at_page) (h.read.found refl) in
     let found_parent : slice_get st.pages parent.block ≡ Some parent = subst (λ (b : ℕ). slice_get st.pages b ≡ Some parent) (sym at_parent) (h.read_parent.found refl) in
-    let used : page.block < length st.pages = inside st.pages page.block page found in
-    let used_parent : parent.block < length st.pages = inside st.pages parent.block parent found_parent in
+    let used : page.block < length st.pages = slice_get_within st.pages page.block page found in
+    let used_parent : parent.block < length st.pages = slice_get_within st.pages parent.block parent found_parent in
     let alive = (incomplete_has page h.read.stored.storable.admitted h.ready.incomplete).1 in
     let beside : RightMay st parent.block half.block right = right_may st session parent.block half.block parent.right right few h.fresh block mendable apart_q h.right_stored in
     let clear_is : clear.block ≡ page.block = h.clears.block_is in
@@ -319,14 +312,11 @@ beside_parent st session honest op position page parent order fits at_is kept_mo
         let n = neighbour_shows st fits.start (suc op.target.level) (bound_aim op.target.separator) true parent r order.tree found_parent place ready.alive is in
         record {
           mendable = subst (RightIsMendable st) (sym is) (record { page = n.page; found = n.found; mends = n.mends });
-          apart_parent = λ k. n.apart (some_same r parent.block (sym is ∙ k));
+          apart_parent = λ k. n.apart (same_Some r parent.block (sym is ∙ k));
           apart_page = λ k.
-              let same : n.page ≡ page = (let e : Some n.page ≡ Some page = sym n.found ∙ ap (slice_get st.pages) (some_same r page.block (sym is ∙ k)) ∙ found in cc) in
+              let same : n.page ≡ page = (let e : Some n.page ≡ Some page = sym n.found ∙ ap (slice_get st.pages) (same_Some r page.block (sym is ∙ k)) ∙ found in cc) in
               let levels : suc op.target.level ≡ op.target.level = sym n.level_is ∙ ap (λ (x : Page). x.level) same ∙ ready_to.level_is in omega arith;
         }
-      where
-        some_same : (a b : ℕ) → Some a ≡ Some b → a ≡ b
-        some_same a b k = cc
 
 -- the split as it is made: of the parent that has a downlink to the page
 pub split_as_read : (parent : Page) (fresh child page new : ℕ) (separator : Bound) (left half : Page) → child ≡ page → half.block ≡ fresh

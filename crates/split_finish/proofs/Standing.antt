@@ -1,13 +1,13 @@
 -- Where a call stands, in a tree.
-use Rattle.std.proofs.Common.{◌≡◌, ◌⊎◌, ℕ, zero, suc, ◌<◌, ◌≤◌, Bool, true, false, Option, Some, None, List, [], ◌∷◌, ◌++◌, length, slice_get, refl, sym, ap, subst, inl, inr, ◌∙◌, arith, length-append}
+use Rattle.std.proofs.Common.{◌≡◌, ◌⊎◌, ℕ, zero, suc, ◌<◌, ◌≤◌, Bool, true, false, true≢false, Option, Some, None, List, [], ◌∷◌, ◌++◌, length, slice_get, refl, sym, ap, subst, inl, inr, ◌∙◌, arith, length-append}
 use Rattle.page_codec.proofs.Again.{slot_widens}
 use Rattle.index_model.specs.declared.entry.Entry.{Entry}
 use Rattle.tree_acts.proofs.Lasting.{fresh_free}
 use Rattle.tree_acts.specs.Ways.{RootIsThere}
 use Rattle.split_finish.proofs.Imports.{Bound, Page, IsPage, IsOfKind, IsLeafIn, IsBlock, IsBoundIn, Two, Items, Meta, Entries, Downlinks, PageState, Live, HalfDead, Deleted, IsSome, IfSome}
-use Rattle.split_finish.proofs.Imports.{State, Holding, HasRoom, holding_of, nothing_held, stored_page, IsMetaOf, Node, bound_aim, IsFresh, inside, node_there, HasTree, LeadsTo, IsIncompleteSplit}
+use Rattle.split_finish.proofs.Imports.{State, Holding, HasRoom, holding_of, nothing_held, stored_page, IsMetaOf, Node, bound_aim, IsFresh, node_there, HasTree, LeadsTo, IsIncompleteSplit, false≢true}
 use Rattle.split_finish.proofs.Imports.{metapage_shows, live_shows, high_key_shows, trail_begins_here, IsOnDescent, position_from, Position, targets_of, IsTarget, FinishStands, FinishInvariant, Popped}
-use Rattle.split_finish.proofs.Imports.{Pushed, Retaken, FinishAt, Down, FinishOp, Going, Target}
+use Rattle.split_finish.proofs.Imports.{Pushed, Retaken, FinishAt, Down, FinishOp, Going, Target, slice_get_within}
 
 -- the metapage that is read is the tree's
 pub meta_same : (st : State) (start level : ℕ) (aim : Bound → Bool) (clear : Bool) (block : ℕ) (meta : Page) → LeadsTo st start level aim clear block
@@ -113,24 +113,18 @@ some_none (Some x) h is = cc
 pub incomplete_has : (page : Page) → IsPage page → page.split ≡ true → (page.high ≡ None → ⊥) × (page.state ≡ Live) × (page.right ≡ None → ⊥)
 incomplete_has page admitted incomplete = by page.items refl admitted.kind
   where
-    no : false ≡ true → ⊥
-    no e = cc
-
     leaf : (es : List Entry) (state : PageState) → page.state ≡ state → IsLeafIn state page es → (page.high ≡ None → ⊥) × (page.state ≡ Live) × (page.right ≡ None → ⊥)
     leaf es Live is h = ((λ none. some_none page.high (h.high.1 (h.split incomplete)) none), is, (λ none. some_none page.right (h.split incomplete) none))
-    leaf es HalfDead is h = absurd (no (sym h.split ∙ incomplete))
-    leaf es Deleted is h = absurd (no (sym h.split ∙ incomplete))
+    leaf es HalfDead is h = absurd (false≢true (sym h.split ∙ incomplete))
+    leaf es Deleted is h = absurd (false≢true (sym h.split ∙ incomplete))
 
     by : (items : Items) → page.items ≡ items → IsOfKind page items → (page.high ≡ None → ⊥) × (page.state ≡ Live) × (page.right ≡ None → ⊥)
-    by Meta is h = absurd (no (sym h.split ∙ incomplete))
+    by Meta is h = absurd (false≢true (sym h.split ∙ incomplete))
     by (Entries v) is h = leaf v.items page.state refl h.rest
     by (Downlinks v) is h = ((λ none. some_none page.high (h.high.1 (h.split incomplete)) none), h.state, (λ none. some_none page.right (h.split incomplete) none))
 
 pub incomplete_in : (st : State) (block : ℕ) (page : Page) → HasTree st → slice_get st.pages block ≡ Some page → page.split ≡ true → (page.high ≡ None → ⊥) × (page.state ≡ Live) × (page.right ≡ None → ⊥)
 incomplete_in st block page h found = incomplete_has page (stored_page st.limits block st.pages page h.stored found).storable.admitted
-
-true_false : true ≡ false → ⊥
-true_false h = cc
 
 -- in a tree a page that is not both live and with an incomplete split has no incomplete split
 pub not_incomplete : (st : State) (block : ℕ) (page : Page) → HasTree st → slice_get st.pages block ≡ Some page → (page.state ≡ Live → page.split ≡ false) → page.split ≡ false
@@ -138,7 +132,7 @@ not_incomplete st block page h found whole = by page.split refl
   where
     by : (b : Bool) → page.split ≡ b → page.split ≡ false
     by false is = is
-    by true is = absurd (true_false (sym is ∙ whole (incomplete_in st block page h found is).1))
+    by true is = absurd (true≢false (sym is ∙ whole (incomplete_in st block page h found is).1))
 
 -- after the newest target the ones below it are left
 pub fits_popped : (st : State) (before after : FinishOp) (start : ℕ) → Popped before after Going → before.session < 64 → holding_of st.table before.session ≡ nothing_held
@@ -206,7 +200,7 @@ to_finish st start level aim block page h place found incomplete =
 
 -- there is a metapage
 pub meta_inside : (st : State) → HasTree st → 0 < length st.pages
-meta_inside st h = inside st.pages 0 h.tree.meta h.tree.meta_at
+meta_inside st h = slice_get_within st.pages 0 h.tree.meta h.tree.meta_at
 
 -- a session that holds nothing may latch a page
 pub has_room : (st : State) (op : FinishOp) → FinishInvariant st op → HasRoom st.table op.session
@@ -216,11 +210,8 @@ has_room st op fits = subst (λ (held : Holding). length held.latches < 8) (sym 
 pub incomplete_block : (page : Page) → IsPage page → page.split ≡ true → IsBlock page.block
 incomplete_block page admitted incomplete = by page.items refl admitted.kind
   where
-    no : false ≡ true → ⊥
-    no e = cc
-
     by : (items : Items) → page.items ≡ items → IsOfKind page items → IsBlock page.block
-    by Meta is h = absurd (no (sym h.split ∙ incomplete))
+    by Meta is h = absurd (false≢true (sym h.split ∙ incomplete))
     by (Entries v) is h = h.block
     by (Downlinks v) is h = h.block
 
@@ -239,7 +230,7 @@ high_bound page high admitted is = if_some (IsBoundIn Two) page.high high (slot_
 pub fresh_not_live : (st : State) (fresh block : ℕ) (page : Page) → HasTree st → IsFresh st fresh → slice_get st.pages block ≡ Some page → page.state ≡ Live → block ≡ fresh → ⊥
 fresh_not_live st fresh block page h new found alive same =
     let free = fresh_free st fresh h new in
-    let gone = free.not_in_use (subst (λ (b : ℕ). b < length st.pages) same (inside st.pages block page found)) in
+    let gone = free.not_in_use (subst (λ (b : ℕ). b < length st.pages) same (slice_get_within st.pages block page found)) in
     live_deleted (sym alive ∙ sym (ap (λ (n : Node). n.state) (node_there st.pages fresh page (subst (λ (b : ℕ). slice_get st.pages b ≡ Some page) same found))) ∙ gone)
   where
     live_deleted : Live ≡ Deleted → ⊥

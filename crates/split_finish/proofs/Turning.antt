@@ -1,10 +1,10 @@
 -- Turns, by what is changed of the call.
-use Rattle.std.proofs.Common.{◌≡◌, ◌⊎◌, ℕ, ◌<◌, ◌≤◌, ◌||◌, ◌==◌, Bool, true, false, Some, Ok, List, [], ◌∷◌, ◌++◌, length, slice_get, refl, sym, ap, subst, inl, inr, ◌∙◌, eq-eqb}
+use Rattle.std.proofs.Common.{◌≡◌, ℕ, ◌<◌, ◌≤◌, ◌==◌, Bool, true, false, true≢false, Some, Ok, List, [], ◌∷◌, ◌++◌, length, slice_get, refl, sym, ap, subst, inl, inr, ◌∙◌, eq-eqb}
 use Rattle.std.proofs.lemmas.Cmp.{tied_itself}
 use Rattle.index_model.specs.Order.{bound_cmp}
 use Rattle.split_finish.proofs.Imports.{eqb-true, is_eq, bounds_total, Bound, Page, Live, State, Node, nodes_of, HasTree, node_there, Position, bound_aim, is_within, walk_length, FinishStands}
 use Rattle.split_finish.proofs.Imports.{FinishInvariant, OnlyTargetsAreIncomplete, targets_of, is_among_targets, is_as_read, is_ready, detour, walk_left, Turned, TurnContinues, Popped, Pushed}
-use Rattle.split_finish.proofs.Imports.{Retaken, is_incomplete, FinishStep, Going, Done, FinishAt, Down, FinishOp, Target}
+use Rattle.split_finish.proofs.Imports.{Retaken, is_incomplete, FinishStep, Going, Done, FinishAt, Down, FinishOp, Target, false≢true, or_cases, or_left, or_right}
 use Rattle.split_finish.proofs.Counting.{left, less_pushed, less_popped, less_retaken, over_alone}
 use Rattle.split_finish.proofs.Standing.{fits_moved, rises_to, fits_popped, fits_retaken, incomplete_in}
 
@@ -18,18 +18,6 @@ turn_moved st op context at is less stands = record {
   fits = λ h fits. fits_moved st op at fits (stands h fits (subst (FinishStands st fits.start op.target) is fits.stands));
   flags = λ h. h;
 }
-
-or_cases : (a b : Bool) → (a || b) ≡ true → (a ≡ true) ⊎ (b ≡ true)
-or_cases true b h = inl refl
-or_cases false b h = inr h
-
-or_left : (a b : Bool) → a ≡ true → (a || b) ≡ true
-or_left true b h = refl
-or_left false b h = absurd cc
-
-or_right : (a b : Bool) → b ≡ true → (a || b) ≡ true
-or_right true b h = refl
-or_right false b h = h
 
 pub among_more : (xs ys : List Target) (block : ℕ) → is_among_targets xs block ≡ true → is_among_targets (xs ++ ys) block ≡ true
 among_more [] ys block h = absurd cc
@@ -103,11 +91,8 @@ flags_gone old new before after popped h were block = by (is_incomplete new bloc
   where
     by : (b : Bool) → is_incomplete new block ≡ b → is_incomplete new block ≡ false
     by false is = is
-    by true is = absurd (no (subst (λ (ts : List Target). is_among_targets ts block ≡ true) popped.0
+    by true is = absurd (false≢true (subst (λ (ts : List Target). is_among_targets ts block ≡ true) popped.0
         (among_fewer before.below.items before.target block (h block (were block is).0) (were block is).1)))
-      where
-        no : false ≡ true → ⊥
-        no e = cc
 
 whole_is : (st : State) (block : ℕ) (page : Page) → slice_get st.pages block ≡ Some page → page.split ≡ false → is_incomplete st block ≡ false
 whole_is st block page found whole = ap (λ (n : Node). n.split) (node_there st.pages block page found) ∙ whole
@@ -122,18 +107,12 @@ turn_popped st op after Going page popped found whole = record {
   less = rw popped.at_is
       (less_popped st.limits.pages (nodes_of st.pages) op.below.items op.target after.below.items after.target op.at popped.list_is (stale_is st op.target page found whole) popped.few);
   fits = λ h fits. fits_popped st op after fits.start popped fits.session fits.free fits.running fits.below;
-  flags = λ h. flags_popped st st op after popped h (λ block k. (k, λ same. not_both (sym k ∙ ap (is_incomplete st) (sym same) ∙ whole_is st op.target.block page found whole)));
+  flags = λ h. flags_popped st st op after popped h (λ block k. (k, λ same. true≢false (sym k ∙ ap (is_incomplete st) (sym same) ∙ whole_is st op.target.block page found whole)));
 }
-  where
-    not_both : true ≡ false → ⊥
-    not_both e = cc
 turn_popped st op after Done page popped found whole = record {
   over = rw popped.0 (over_alone st.limits.pages (nodes_of st.pages) op.target op.at (stale_is st op.target page found whole));
-  flags = λ h. flags_gone st st op after popped h (λ block k. (k, λ same. not_both (sym k ∙ ap (is_incomplete st) (sym same) ∙ whole_is st op.target.block page found whole)));
+  flags = λ h. flags_gone st st op after popped h (λ block k. (k, λ same. true≢false (sym k ∙ ap (is_incomplete st) (sym same) ∙ whole_is st op.target.block page found whole)));
 }
-  where
-    not_both : true ≡ false → ⊥
-    not_both e = cc
 
 -- the newest target's page has another high key
 pub stale_high : (st : State) (target : Target) (page : Page) (high : Bound) → slice_get st.pages target.block ≡ Some page → page.split ≡ true → page.high ≡ Some high

@@ -7,8 +7,9 @@ use Rattle.std.specs.declared.cmp.Ordering.TheVariants.{Less, Equal, Greater}
 use Rattle.std.proofs.lemmas.Cmp.{tied_itself}
 use Rattle.index_model.specs.declared.range.Range.{Range}
 use Rattle.index_model.proofs.Order.{entries_total, exact_entries}
-use Rattle.tests_reference.proofs.Imports.{unwrap_or, if◌then◌else◌, Row, entry_cmp, same_entry, is_among, IsAscending, Effect, Add, Remove, Shape, Action, said_of, later_or, last_said}
-use Rattle.tests_reference.proofs.Imports.{is_there_after, GivesOnly, GivesAll, AreRemovable, Entry, with_added, added_by, IsGivenIfOwed, MayBeGiven, IsRemoved, AreRemoved, IsRemovable}
+use Rattle.tests_reference.proofs.Imports.{unwrap_or, if◌then◌else◌, Row, entry_cmp, same_entry, is_among, IsAscending, Effect, Add, Remove, Shape, Action, said_of, later_or, last_said, or-true}
+use Rattle.tests_reference.proofs.Imports.{is_there_after, GivesOnly, GivesAll, AreRemovable, Entry, with_added, added_by, IsGivenIfOwed, MayBeGiven, IsRemoved, AreRemoved, IsRemovable, or_cases}
+use Rattle.tests_reference.proofs.Imports.{AllByRecursion-among}
 
 is_equal : (o : Ordering) → is_eq o ≡ true → o ≡ Equal
 is_equal Less e = absurd cc
@@ -25,34 +26,17 @@ same_itself e = ap is_eq (tied_itself entries_total e)
 pub same_decides : (a b : Entry) → a ≡ b → same_entry a b ≡ true
 same_decides a b e = subst (λ (x : Entry). same_entry a x ≡ true) e (same_itself a)
 
-or_true : (a : Bool) → (a || true) ≡ true
-or_true true = refl
-or_true false = refl
-
-either : (a b : Bool) → (a || b) ≡ true → (a ≡ true) ⊎ (b ≡ true)
-either true b e = inl refl
-either false b e = inr e
-
--- what holds of each of a list holds of what is among them
-pub all_of_among : (P : Entry → Type 0) (xs : List Entry) (e : Entry) → AllByRecursion P xs → is_among xs e ≡ true → P e
-all_of_among P [] e all among = absurd cc
-all_of_among P (x ∷ xs) e all among = by (either (same_entry x e) (is_among xs e) among) (all_of_among P xs e all.1)
-  where
-    by : (same_entry x e ≡ true) ⊎ (is_among xs e ≡ true) → (is_among xs e ≡ true → P e) → P e
-    by (inl same) later = subst P (same_is x e same) all.0
-    by (inr rest) later = later rest
-
 -- ... and the other way round
 pub among_all : (P : Entry → Type 0) (xs : List Entry) → ((e : Entry) → is_among xs e ≡ true → P e) → AllByRecursion P xs
 among_all P [] h = tt
 among_all P (x ∷ xs) h =
-    (h x (ap (λ (b : Bool). b || is_among xs x) (same_itself x)), among_all P xs (λ e among. h e (ap (λ (b : Bool). same_entry x e || b) among ∙ or_true (same_entry x e))))
+    (h x (ap (λ (b : Bool). b || is_among xs x) (same_itself x)), among_all P xs (λ e among. h e (ap (λ (b : Bool). same_entry x e || b) among ∙ or-true (same_entry x e))))
 
 pub all_of_every : (P : Entry → Type 0) (xs : List Entry) → ((e : Entry) → P e) → AllByRecursion P xs
 all_of_every P xs h = among_all P xs (λ e among. h e)
 
 among_with : (effect : Effect) (xs : List Entry) (e : Entry) → is_among xs e ≡ true → is_among (with_added effect xs) e ≡ true
-among_with (Add x) xs e h = ap (λ (b : Bool). same_entry x e || b) h ∙ or_true (same_entry x e)
+among_with (Add x) xs e h = ap (λ (b : Bool). same_entry x e || b) h ∙ or-true (same_entry x e)
 among_with (Remove es) xs e h = h
 among_with Shape xs e h = h
 
@@ -115,8 +99,8 @@ pub all_of_there : (P : Entry → Type 0) (start : List Entry) (history : List A
 all_of_there P start history k e first added there = by (there_is_named start history k e there)
   where
     by : (is_among start e ≡ true) ⊎ (is_among (added_by history) e ≡ true) → P e
-    by (inl among) = all_of_among P start e first among
-    by (inr among) = all_of_among P (added_by history) e added among
+    by (inl among) = AllByRecursion-among P start e first among
+    by (inr among) = AllByRecursion-among P (added_by history) e added among
 
 pub gives_all : (start : List Entry) (history : List Action) (range : Range) (began now : ℕ) (given : List Entry) (IsWithin : Entry → Type 0) → began ≤ now
     → AllByRecursion (IsGivenIfOwed (is_among start) history range began now given IsWithin) start
@@ -133,7 +117,7 @@ owed_of_all start history range began now given IsWithin h xs =
 pub gives_only : (start : Entry → Bool) (history : List Action) (range : Range) (began now : ℕ) (given : List Entry)
     → IsAscending given → AllByRecursion (MayBeGiven start history range began now) given → GivesOnly start history range began now given
 gives_only start history range began now given ascending all =
-    let each = all_of_among (MayBeGiven start history range began now) given in
+    let each = AllByRecursion-among (MayBeGiven start history range began now) given in
     record { ascending = ascending; matched = λ e among. (each e all among).matched; was_there = λ e among. (each e all among).was_there }
 
 pub all_may : (start : Entry → Bool) (history : List Action) (range : Range) (began now : ℕ) (given : List Entry)
@@ -153,7 +137,7 @@ each_gone start history began ended dead gone xs = all_of_every (IsRemoved start
 
 pub are_removable : (was_there : Entry → Bool) (dead : Row → Bool) (es : List Entry) → AllByRecursion (IsRemovable was_there dead) es → AreRemovable was_there dead es
 are_removable was_there dead es all e among =
-    let removable = all_of_among (IsRemovable was_there dead) es e all among in
+    let removable = AllByRecursion-among (IsRemovable was_there dead) es e all among in
     (removable.is_dead, removable.is_there)
 
 pub each_removable : (was_there : Entry → Bool) (dead : Row → Bool) (es : List Entry) → AreRemovable was_there dead es → AllByRecursion (IsRemovable was_there dead) es

@@ -1,4 +1,7 @@
 -- What several proofs of this crate import, passed on from one place. Declares nothing.
+pub use Rattle.index_model.proofs.Ascending.{AllByRecursion-among}
+pub use Rattle.std.proofs.Math.Bool.{or-true}
+pub use Rattle.std.proofs.lemmas.Bool.{cases_lt, false≢true, or_cases}
 pub use Rattle.std.proofs.lemmas.List.{take_all, take_rest}
 pub use Rattle.std.proofs.lemmas.Option.{same_Some}
 pub use Rattle.std.specs.Prelude.{IsTrue, None, if◌then◌else◌, slice_get, unwrap_or, ◌↔◌}

@@ -1,6 +1,6 @@
 -- The owners of actions.
 use Rattle.std.proofs.Common.{◌≡◌, ℕ, zero, suc, ◌≤◌, ◌<◌, Bool, true, false, List, [], ◌∷◌, Some, None, length, get_or, refl, sym, ap, subst, ◌∙◌, arith, inl, inr, ◌⊎◌}
-use Rattle.tests_reference.proofs.Imports.{slice_get, IsTrue, ◌↔◌, same_Some, Action, Call, IsOwned, ActionsAreOwned, Entry, call_of, meant_calls, HasRight, IsOwnedAt}
+use Rattle.tests_reference.proofs.Imports.{slice_get, IsTrue, ◌↔◌, same_Some, Action, Call, IsOwned, ActionsAreOwned, Entry, call_of, meant_calls, HasRight, IsOwnedAt, cases_lt}
 use Rattle.tests_reference.specs.declared.call.PlainCall.{PlainCall}
 
 -- after the last call there is none
@@ -43,15 +43,10 @@ next_side : (a b : ℕ) → (a < b) ⊎ (b ≤ a) → (suc a < suc b) ⊎ (suc b
 next_side a b (inl l) = inl (omega arith)
 next_side a b (inr l) = inr (omega arith)
 
-side : (a b : ℕ) → (a < b) ⊎ (b ≤ a)
-side a zero = inr (omega arith)
-side zero (suc b) = inl (omega arith)
-side (suc a) (suc b) = next_side a b (side a b)
-
 -- if each action of the list is owned, all are
 pub all_owned : (start : Entry → Bool) (history : List Action) (calls : List Call) (count : ℕ) → ((k : ℕ) → count ≤ k → slice_get history k ≡ None)
     → ((k : ℕ) → k < count → IsOwnedAt start history calls k) → ActionsAreOwned start history calls
-all_owned start history calls count behind owned before action is = by (side before count)
+all_owned start history calls count behind owned before action is = by (cases_lt before count)
   where
     by : (before < count) ⊎ (count ≤ before) → IsOwned start history calls before action
     by (inl lt) = (owned before lt).owned action is

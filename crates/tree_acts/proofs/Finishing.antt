@@ -1,12 +1,12 @@
 -- A split is finished: in a parent with room, in one that is split itself, and by a new root.
-use Rattle.std.proofs.Common.{◌≡◌, ◌≢◌, ◌↔◌, ℕ, suc, ◌<◌, ◌≤◌, max, inl, Bool, true, false, List, [], ◌∷◌, ◌++◌, length, slice_get, slice_index, Option, Some, refl, sym, ap, subst, ◌∙◌, arith}
+use Rattle.std.proofs.Common.{◌≡◌, ◌≢◌, ◌↔◌, ℕ, suc, ◌<◌, ◌≤◌, max, inl, Bool, true, List, [], ◌∷◌, ◌++◌, length, slice_get, slice_index, Option, Some, refl, sym, ap, subst, ◌∙◌, arith}
 use Rattle.tree_shape.proofs.Places.{cover_at}
 use Rattle.tree_acts.proofs.Imports.{Bound, Entry, entries_of, IsPage, IsOfKind, IsMeta, IsLeafIn, Items, Meta, Entries, Downlinks, Page, PageState, Live, HalfDead, Deleted, State, after_act}
 use Rattle.tree_acts.proofs.Imports.{with_pages, IsApartFrom, stored_page, Node, node_of, node_from, nodes_of, links_of, IsHeld, IsIn, IsTreeOf, first_context, IsFree, IsFinish, IsParentSplit}
-use Rattle.tree_acts.proofs.Imports.{IsRootSplit, with_links, cleared, new_root, IsTreeAgain, IsReusable, bound_aim, is_fit, IsFitOn, finish_holds, parent_split_holds, root_split_holds}
-use Rattle.tree_acts.proofs.Imports.{finish_keeps, parent_split_keeps, root_split_keeps, in_append_right, only_the_root_is_clear, IsTree, HasTree, HasCover, IsIncompleteSplit, IsClear}
+use Rattle.tree_acts.proofs.Imports.{IsRootSplit, with_links, cleared, new_root, IsTreeAgain, IsReusable, bound_aim, is_fit, IsFitOn, finish_holds, parent_split_holds, root_split_holds, false≢true}
+use Rattle.tree_acts.proofs.Imports.{finish_keeps, parent_split_keeps, root_split_keeps, in_append_right, only_the_root_is_clear, IsTree, HasTree, HasCover, IsIncompleteSplit, IsClear, slice_get_within}
 use Rattle.tree_acts.proofs.Imports.{SplitIsFinished, ParentIsSplit, RootIsSplit, TreeLasts, ContentsStay, FinishLasts, ParentSplitLasts, RootSplitLasts}
-use Rattle.tree_acts.proofs.Overlays.{pages_length, pages_other, pages_first, pages_second, pages_third, counts_other, node_there, node_same, inside}
+use Rattle.tree_acts.proofs.Overlays.{pages_length, pages_other, pages_first, pages_second, pages_third, counts_other, node_there, node_same}
 use Rattle.tree_acts.proofs.Gone.{NoneIsDeleted, in_use_append, live_in_use}
 use Rattle.tree_acts.proofs.Mending.{mended_apart, mended_first, mended_used, mended_in_use, last_there, apart_last, used_last}
 use Rattle.tree_acts.proofs.Words.{cover_in, contents_same}
@@ -17,16 +17,13 @@ use Rattle.tree_acts.proofs.UniqueActs.{finish_unique, parent_split_unique, root
 incomplete_lives : (page : Page) → IsPage page → page.split ≡ true → page.state ≡ Live
 incomplete_lives page admitted incomplete = by page.items refl admitted.kind
   where
-    no : false ≡ true → ⊥
-    no e = cc
-
     leaf : (es : List Entry) (st : PageState) → page.state ≡ st → IsLeafIn st page es → page.state ≡ Live
     leaf es Live is h = is
-    leaf es HalfDead is h = absurd (no (sym h.split ∙ incomplete))
-    leaf es Deleted is h = absurd (no (sym h.split ∙ incomplete))
+    leaf es HalfDead is h = absurd (false≢true (sym h.split ∙ incomplete))
+    leaf es Deleted is h = absurd (false≢true (sym h.split ∙ incomplete))
 
     by : (items : Items) → page.items ≡ items → IsOfKind page items → page.state ≡ Live
-    by Meta is h = absurd (no (sym h.split ∙ incomplete))
+    by Meta is h = absurd (false≢true (sym h.split ∙ incomplete))
     by (Entries v) is h = leaf v.items page.state refl h.rest
     by (Downlinks v) is h = h.state
 
@@ -99,7 +96,7 @@ module _ (st : State) (start level : ℕ) (s : Bound) (p q p_after q_after : Pag
 
   pub finish_used : length (with_pages st.pages (q_after ∷ p_after ∷ [])) ≡ length st.pages
   finish_used = pages_length st.limits (length st.pages) st.pages (q_after ∷ p_after ∷ []) h.may (omega arith)
-      ∙ (let a = inside st.pages q.block q h.found in let b = finish_p.inside in let c = h.block_is in let d = h.clear.block_is in omega arith)
+      ∙ (let a = slice_get_within st.pages q.block q h.found in let b = finish_p.inside in let c = h.block_is in let d = h.clear.block_is in omega arith)
 
   finish_in_use : NoneIsDeleted (q_after ∷ p_after ∷ [])
   finish_in_use = (
@@ -193,7 +190,7 @@ module _ (st : State) (start level : ℕ) (s : Bound) (p q p_after left right : 
       pages_length st.limits (length st.pages) st.pages (left ∷ right ∷ mended ++ p_after ∷ []) h.may (omega arith)
       ∙ used_last (max (max (length st.pages) (suc left.block)) (suc right.block)) mended p_after
       ∙ ap (λ (n : ℕ). max n (suc p_after.block)) (mended_used st right.block q.right mended h.mends (max (max (length st.pages) (suc left.block)) (suc right.block)) (omega arith))
-      ∙ (let lt = inside st.pages q.block q h.found in let b = h.left_block in let c = parent_p.inside in let d = h.clear.block_is in omega arith)
+      ∙ (let lt = slice_get_within st.pages q.block q h.found in let b = h.left_block in let c = parent_p.inside in let d = h.clear.block_is in omega arith)
 
   pub parent_free : IsFree (nodes_of st.pages) (length st.pages) right.block
   parent_free = fresh_free st right.block has h.fresh

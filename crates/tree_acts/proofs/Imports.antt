@@ -1,5 +1,7 @@
 -- What several proofs of this crate import, passed on from one place. Declares nothing.
-pub use Rattle.std.proofs.lemmas.Bool.{and_parts, cases_eq, cases_lt, le-ltb, lt-leb, lt-ltb, or_cases}
+pub use Rattle.std.proofs.Math.Bool.{or-true}
+pub use Rattle.std.proofs.lemmas.Bool.{and_parts, cases_eq, cases_lt, false≢true, le-ltb, lt-leb, lt-ltb, or_cases, or_left, or_right}
+pub use Rattle.std.proofs.lemmas.Option.{same_Some, slice_get_past, slice_get_within}
 pub use Rattle.std.specs.List.{AllByRecursion}
 pub use Rattle.std.specs.Prelude.{IfSome, IsNone, nat_lt, slice_set}
 pub use Rattle.index_model.proofs.Ascending.{AllByRecursion-among, AllByRecursion-append, is_among-append, is_past-self, same_entry-self}

@@ -1,9 +1,9 @@
 -- Pages that are each one of a unique index are keyed, and the other way round.
-use Rattle.std.proofs.Common.{◌≡◌, ℕ, zero, suc, ◌<◌, Bool, true, false, ◌||◌, Option, Some, None, List, [], ◌∷◌, length, slice_get, refl, sym, subst, arith}
+use Rattle.std.proofs.Common.{◌≡◌, ℕ, suc, true, false, Option, Some, None, List, [], ◌∷◌, slice_get, refl, sym, subst, arith}
 use Rattle.tree_acts.specs.TheoremKeys.{AreKeyed}
 use Rattle.tree_acts.proofs.Imports.{IfSome, AllByRecursion, KeysDiffer, AscendsPast, IsAscending, bound_of, is_among, is_past, same_entry, Bound, Entry, Format, is_past-self, same_entry-self}
 use Rattle.tree_acts.proofs.Imports.{entries_of, Ascends, FollowedBy, IsOfKind, IsLeafIn, Items, Meta, Entries, Downlinks, Page, PageState, Live, HalfDead, Deleted, entry_on_live_leaf, AreStored}
-use Rattle.tree_acts.proofs.Imports.{stored_page, KeyBefore, IsUniquePage, AreUnique, node_from, entries_alive, holds, before_key, IsTree, KeyedShows}
+use Rattle.tree_acts.proofs.Imports.{stored_page, KeyBefore, IsUniquePage, AreUnique, node_from, entries_alive, holds, before_key, IsTree, KeyedShows, or-true, slice_get_within}
 use Rattle.tree_acts.proofs.Uniques.{unique_at, unique_shows}
 use Rattle.tree_acts.proofs.Words.{contents_held}
 
@@ -14,12 +14,8 @@ DifferIn es = KeysDiffer (is_among es)
 first_there : (x : Entry) (xs : List Entry) → is_among (x ∷ xs) x ≡ true
 first_there x xs = rw (same_entry-self x) refl
 
-or_true : (b : Bool) → (b || true) ≡ true
-or_true true = refl
-or_true false = refl
-
 rest_there : (x : Entry) (xs : List Entry) (y : Entry) → is_among xs y ≡ true → is_among (x ∷ xs) y ≡ true
-rest_there x xs y there = rw there (or_true (same_entry x y))
+rest_there x xs y there = rw there (or-true (same_entry x y))
 
 rest_differs : (x : Entry) (xs : List Entry) → DifferIn (x ∷ xs) → DifferIn xs
 rest_differs x xs differ a b in_a in_b same = differ a b (rest_there x xs a in_a) (rest_there x xs b in_b) same
@@ -57,11 +53,6 @@ all_from : (P : Page → Type 0) (pages : List Page) → ((b : ℕ) (page : Page
 all_from P [] h = tt
 all_from P (page ∷ pages) h = (h 0 page refl, all_from P pages (λ b other found. h (suc b) other found))
 
-in_use : (pages : List Page) (b : ℕ) (page : Page) → slice_get pages b ≡ Some page → b < length pages
-in_use [] b page found = absurd cc
-in_use (p ∷ pages) zero page found = omega arith
-in_use (p ∷ pages) (suc b) page found = (let k : b < length pages = in_use pages b page found in omega arith)
-
 module _ (limits : Format) (pages : List Page) (stored : AreStored limits 0 pages) (keyed : AreKeyed pages) where
   unique_page : (b : ℕ) (page : Page) → slice_get pages b ≡ Some page → IsUniquePage page
   unique_page b page found = record {
@@ -73,7 +64,7 @@ module _ (limits : Format) (pages : List Page) (stored : AreStored limits 0 page
       on : (x : Entry) → is_among (entries_alive page.state (entries_of page.items)) x ≡ true → entry_on_live_leaf pages x ≡ true
       on x there = (contents_held pages x).1 (record {
         block = b;
-        in_use = in_use pages b page found;
+        in_use = slice_get_within pages b page found;
         on = subst (λ (o : Option Page). holds (node_from o) x ≡ true) (sym found) there;
       })
 

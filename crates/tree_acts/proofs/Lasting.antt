@@ -1,7 +1,7 @@
 -- What an act leaves, from what the tree's law says of it.
-use Rattle.std.proofs.Common.{◌≡◌, ◌≢◌, ◌⊎◌, ℕ, zero, suc, ◌<◌, ◌≤◌, ◌&&◌, inl, inr, Bool, true, false, if◌then◌else◌, List, [], ◌∷◌, ◌++◌, length, slice_get, slice_index, nat_le, Option, Some, None, refl, sym, ap, subst, ◌∙◌, arith}
+use Rattle.std.proofs.Common.{◌≡◌, ◌≢◌, ◌⊎◌, ℕ, zero, suc, ◌<◌, ◌≤◌, ◌&&◌, inl, inr, Bool, true, false, true≢false, if◌then◌else◌, List, [], ◌∷◌, ◌++◌, length, slice_get, slice_index, nat_le, Option, Some, None, refl, sym, ap, subst, ◌∙◌, arith}
 use Rattle.tree_acts.proofs.Imports.{cases_lt, lt-leb, nat_lt, slice_set, Bound, Format, IsOfKind, IsMeta, Page, PageState, Live, HalfDead, Deleted, is_deleted_state, is_deleted_page, is_deleted}
-use Rattle.tree_acts.proofs.Imports.{began_after, others_began_after, is_reusable, IsFresh, State, after_act, with_page, with_pages, AreStored, AreActable, stored-with_page, stored_page}
+use Rattle.tree_acts.proofs.Imports.{began_after, others_began_after, is_reusable, IsFresh, State, after_act, with_page, with_pages, AreStored, AreActable, stored-with_page, stored_page, slice_get_past}
 use Rattle.tree_acts.proofs.Imports.{length-with_counts, IsUniquePage, AreUnique, IsMetaOf, node_from, nodes_of, LeftContext, IsIn, IsRunOf, IsTreeOf, first_context, IsFree, IsTreeAgain}
 use Rattle.tree_acts.proofs.Imports.{IsTreeAgainWithout, IsReusable, is_fit, IsFitOn, first_in, in_append_right, member, run_back, split_at, trail_stays, places_stay, live_places_stand}
 use Rattle.tree_acts.proofs.Imports.{places_keep_their_level, IsTree, HasTree, LeadsTo, IsStart, KeptDeletedLeadOn, TreeLasts}
@@ -31,17 +31,12 @@ deleted_in_use st h c gone = (
   positive c refl,
   elim (cases_lt c (length st.pages)) [
     | inl lt ↦ lt
-    | inr ge ↦ absurd (clash (sym (ap (λ (o : Option Page). (node_from o).state) (past st.pages c ge)) ∙ gone))
+    | inr ge ↦ absurd (clash (sym (ap (λ (o : Option Page). (node_from o).state) (slice_get_past st.pages c ge)) ∙ gone))
   ],
 )
   where
     clash : Live ≡ Deleted → ⊥
     clash e = cc
-
-    past : (pages : List Page) (b : ℕ) → length pages ≤ b → slice_get pages b ≡ None
-    past [] b le = refl
-    past (p ∷ pages) zero le = absurd (omega arith)
-    past (p ∷ pages) (suc b) le = past pages b (omega arith)
 
     positive : (n : ℕ) → c ≡ n → 0 < n
     positive (suc n) is = omega arith
@@ -91,11 +86,8 @@ fresh_free st new h f = record {
         subst (λ (b : ℕ). (nodes_of st.pages b).state ≡ Deleted) is (reusable_deleted st new (f.reusable (subst (λ (b : ℕ). b < length st.pages) (sym is) meta_there))) in
         absurd (clash (sym (meta_lives st h) ∙ ap (λ (n : _). n.state) (sym (ap node_from h.tree.meta_at)) ∙ gone))
 
-clash_bool : true ≡ false → ⊥
-clash_bool e = cc
-
 le_is : (a b : ℕ) → nat_le a b ≡ true → a ≤ b
-le_is a b h = elim (cases_lt b a) [ inl lt ↦ absurd (clash_bool (sym h ∙ lt-leb a b lt)) | inr le ↦ le ]
+le_is a b h = elim (cases_lt b a) [ inl lt ↦ absurd (true≢false (sym h ∙ lt-leb a b lt)) | inr le ↦ le ]
 
 began : (number from session start : ℕ) (running : List (Option ℕ)) → others_began_after number from None running ≡ true → slice_get running session ≡ Some (Some start) → number ≤ start
 began number from session start [] h is = cc
@@ -107,14 +99,9 @@ began number from (suc session) start (call ∷ running) h is = began number (su
 pub fresh_reusable : (st : State) (new start : ℕ) → IsFresh st new → IsStart st.running start → IsReusable (nodes_of st.pages) (slice_index st.counted) start new
 fresh_reusable st new start f is gone = elim (cases_lt new (length st.pages)) [
   | inl lt ↦ began (slice_index st.counted new) 0 is.session start st.running (and_right (is_deleted st.pages new) _ (f.reusable lt)) is.is
-  | inr ge ↦ absurd (never (past st.pages new ge) gone)
+  | inr ge ↦ absurd (never (slice_get_past st.pages new ge) gone)
 ]
   where
-    past : (pages : List Page) (b : ℕ) → length pages ≤ b → slice_get pages b ≡ None
-    past [] b le = refl
-    past (p ∷ pages) zero le = absurd (omega arith)
-    past (p ∷ pages) (suc b) le = past pages b (omega arith)
-
     clash : Live ≡ Deleted → ⊥
     clash e = cc
 

@@ -1,12 +1,12 @@
 -- What acts leave a bulk delete: leaves stay, or are split into halves that carry its cycle number.
-use Rattle.std.proofs.Common.{◌≡◌, ◌⊎◌, ℕ, ◌<◌, ◌≤◌, inl, inr, Bool, true, false, ◌||◌, List, [], ◌∷◌, ◌++◌, length, slice_get, Option, Some, refl, sym, ap, subst, ◌∙◌, arith}
+use Rattle.std.proofs.Common.{◌≡◌, ◌⊎◌, ℕ, ◌<◌, ◌≤◌, inl, inr, Bool, true, ◌||◌, List, [], ◌∷◌, ◌++◌, length, slice_get, Option, Some, refl, sym, ap, subst, ◌∙◌, arith}
 use Rattle.page_codec.specs.declared.page.Downlink.{Downlink}
 use Rattle.tree_shape.proofs.Removal.{is_among-filter}
 use Rattle.tree_acts.proofs.Imports.{cases_eq, or_cases, and_parts, Effect, Add, Remove, Shape, is_among, same_entry, Entry, Format, is_among-append, entries_of, HasEntries, IsPage, IsOfKind}
 use Rattle.tree_acts.proofs.Imports.{Items, Meta, Entries, Downlinks, Page, Live, Deleted, State, after_act, with_page, with_pages, AreActable, IsFresh, stored_page, Node, nodes_of, links_of}
-use Rattle.tree_acts.proofs.Imports.{entry_aim, is_fit, put_among, HasTree, IsMended, rightmost, neighbour, LeafIsSplit, IsClear}
+use Rattle.tree_acts.proofs.Imports.{entry_aim, is_fit, put_among, HasTree, IsMended, rightmost, neighbour, LeafIsSplit, IsClear, or_left, or_right, slice_get_within}
 use Rattle.tree_acts.specs.Leaves.{IsLeafAt, LeafStays, LeafIsHalved, LeafBecomes, WasLeaf, LeafPagesStay, PagesKeepLeaves, PuttingLeaves, RemovingLeaves, LeafSplitLeaves, FinishLeaves, ParentSplitLeaves, RootSplitLeaves}
-use Rattle.tree_acts.proofs.Overlays.{page_there, page_other, page_length, pages_first, pages_second, node_there, inside}
+use Rattle.tree_acts.proofs.Overlays.{page_there, page_other, page_length, pages_first, pages_second, node_there}
 use Rattle.tree_acts.proofs.Lasting.{StandsOnChain, stands, fresh_free}
 
 -- each of these pages has the property
@@ -157,7 +157,7 @@ no_leaf_where st q found none b is page at =
 pub fresh_no_leaf : (st : State) (new : ℕ) → HasTree st → IsFresh st new → (page : Page) → IsLeafAt st.pages new page → ⊥
 fresh_no_leaf st new has fresh page at =
     let free = fresh_free st new has fresh in
-    let gone : (nodes_of st.pages new).state ≡ Deleted = free.not_in_use (inside st.pages new page at.found) in
+    let gone : (nodes_of st.pages new).state ≡ Deleted = free.not_in_use (slice_get_within st.pages new page at.found) in
     clash (sym at.alive ∙ sym (ap (λ (n : Node). n.state) (node_there st.pages new page at.found)) ∙ gone)
   where
     clash : Live ≡ Deleted → ⊥
@@ -290,14 +290,6 @@ module _ (st : State) (start : ℕ) (e : Entry) (page left right : Page) (mended
   parts x =
       rw (ap (λ (n : Node). n.entries) h.halves.left_is, ap (λ (n : Node). n.entries) h.halves.right_is)
       (sym (is_among-append (h.halves.first ∷ h.halves.front) (h.halves.middle ∷ h.halves.back) x) ∙ put_among e (entries_of page.items) _ x h.halves.put)
-
-  or_left : (a b : Bool) → a ≡ true → (a || b) ≡ true
-  or_left true b k = refl
-  or_left false b k = absurd cc
-
-  or_right : (a b : Bool) → b ≡ true → (a || b) ≡ true
-  or_right true b k = refl
-  or_right false b k = k
 
   halved : LeafIsHalved (Some (Add e)) st.cycle st.pages (with_pages st.pages (left ∷ right ∷ mended)) page left
   halved = record {

@@ -3,7 +3,7 @@ use Rattle.std.proofs.Common.{◌≡◌, ◌≢◌, ℕ, zero, suc, ◌<◌, ◌
 use Rattle.tree_shape.proofs.Straight.{covers_lead_straight_down, root_covers}
 use Rattle.tree_acts.proofs.Imports.{is_among, Bound, entries_of, IsOfKind, IsMeta, Meta, Page, PageState, Live, entry_on_live_leaf, State, IsMetaOf, Node, node_from, nodes_of, IsIn, AreDistinct}
 use Rattle.tree_acts.proofs.Imports.{IsRunOf, FitsState, Rises, LeftContext, past, first_context, IsBetween, HasLink, entry_aim, bound_aim, frontier_aim, is_beyond, is_within, is_fit, IsFitOn}
-use Rattle.tree_acts.proofs.Imports.{IsCoverOn, IsLead, on_chain, by_deleted, first_in, member, not_in_apart, apart_back, run_back, split_at, trail_begins, trail_goes_on, here_apart}
+use Rattle.tree_acts.proofs.Imports.{IsCoverOn, IsLead, on_chain, by_deleted, first_in, member, not_in_apart, apart_back, run_back, split_at, trail_begins, trail_goes_on, here_apart, false≢true}
 use Rattle.tree_acts.proofs.Imports.{trail_is_short, root_is_a_place, places_go_right, places_cover, covers_lead_down, held_on_its_cover, frontier_covers_entries, incomplete_split_has_its_link}
 use Rattle.tree_acts.proofs.Imports.{separator_fits_after, only_the_root_is_clear, places_keep_their_level, stored_page, IsTree, HasTree, LeadsTo, MetapageShows, PassedShows, LiveShows}
 use Rattle.tree_acts.proofs.Imports.{InternalShows, LeafShows, FrontierShows, ParentShows, SeparatorShows, RootShows, IncompleteSplitIsBelow, TrailBegins, TrailMovesRight, TrailIsShort}
@@ -173,10 +173,7 @@ wider aim farther clear clear' s more eased fit = go clear clear' s.behind s.low
     go false false w l eased p = low l p
     go true false false l eased p = low l p
     go true false true l eased p = cc
-    go false true w l eased p = absurd (clash (eased refl))
-      where
-        clash : false ≡ true → ⊥
-        clash e = cc
+    go false true w l eased p = absurd (false≢true (eased refl))
     go true true false l eased p = low l p
     go true true true l eased p = cc
 

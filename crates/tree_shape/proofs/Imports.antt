@@ -1,10 +1,12 @@
 -- What several proofs of this crate import, passed on from one place. Declares nothing.
-pub use Rattle.std.proofs.lemmas.Bool.{cases_Bool, cases_eq, eq-eqb, eqb-true}
+pub use Rattle.std.proofs.Math.Bool.{and-false, or-true}
+pub use Rattle.std.proofs.lemmas.Bool.{both_ways, cases_Bool, cases_eq, eq-eqb, eqb-true, false≢true, not-false, not-true}
 pub use Rattle.std.proofs.lemmas.Cmp.{alike_right, nat_cmp_total, nat_list_cmp_total, tied_itself}
 pub use Rattle.std.proofs.lemmas.List.{drop_all, get_or_read, take-append-drop, take_all}
 pub use Rattle.std.proofs.lemmas.List.Edits.{length-insert}
 pub use Rattle.std.proofs.lemmas.List.Sorted.{IsPartitionPoint-from_clause}
 pub use Rattle.std.proofs.lemmas.Map.Lookups.{exact_bytes, exact_unsigned}
+pub use Rattle.std.proofs.lemmas.Option.{same_Some}
 pub use Rattle.std.specs.Cmp.{IsTotalOrder}
 pub use Rattle.std.specs.List.{AllByRecursion, AllWithin}
 pub use Rattle.std.specs.List.Sorted.{IsPartitionPoint, IsPartitionedBy}

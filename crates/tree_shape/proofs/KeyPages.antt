@@ -1,5 +1,5 @@
 -- Entries of one page with one key are one entry.
-use Rattle.std.proofs.Common.{◌≡◌, Bool, true, false, List, [], ◌∷◌, ℕ, refl, sym, ap, subst, ◌∙◌}
+use Rattle.std.proofs.Common.{◌≡◌, Bool, true, false, true≢false, List, [], ◌∷◌, ℕ, refl, sym, ap, subst, ◌∙◌}
 use Rattle.tree_shape.proofs.Imports.{nat_list_cmp_total, tied_itself, IsTotalOrder, is_lt, Ordering, Less, Equal, Greater, key_cmp, is_among, same_entry, Entry, Ascends, FollowedBy, KeyBefore}
 use Rattle.tree_shape.proofs.Imports.{same_entry-is}
 
@@ -16,10 +16,7 @@ key_chain a b c p q = ap is_lt (total.trans a.key b.key c.key (less (key_cmp a.k
 
 -- keys that are before each other aren't one
 pub apart_keys : (a b : Entry) → KeyBefore a b → a.key ≡ b.key → ⊥
-apart_keys a b p same = clash (sym (subst (λ (k : List ℕ). is_lt (key_cmp a.key k) ≡ true) (sym same) p) ∙ rw (tied_itself nat_list_cmp_total a.key) refl)
-  where
-    clash : true ≡ false → ⊥
-    clash h = cc
+apart_keys a b p same = true≢false (sym (subst (λ (k : List ℕ). is_lt (key_cmp a.key k) ≡ true) (sym same) p) ∙ rw (tied_itself nat_list_cmp_total a.key) refl)
 
 -- what follows an entry has a greater key
 behind : (a : Entry) (es : List Entry) (y : Entry) → FollowedBy KeyBefore a es → is_among es y ≡ true → KeyBefore a y

@@ -1,8 +1,8 @@
 -- If none of the two entries beside an entry's place has its key, none has.
-use Rattle.std.proofs.Common.{◌≡◌, ◌≢◌, ℕ, zero, suc, ◌≤◌, ◌||◌, Bool, true, false, Option, Some, None, List, [], ◌∷◌, length, slice_get, take, drop, refl, sym, ap, subst, ◌∙◌, arith}
+use Rattle.std.proofs.Common.{◌≡◌, ◌≢◌, ℕ, zero, suc, ◌≤◌, true, false, Option, Some, None, List, [], ◌∷◌, length, slice_get, take, drop, refl, sym, ap, subst, ◌∙◌, arith}
 use Rattle.index_model.specs.Row.{Row}
 use Rattle.tree_shape.proofs.Imports.{nat_list_cmp_total, exact_bytes, take-append-drop, IfNone, IsTotalOrder, AllByRecursion, option_cmp, is_lt, ordering_then, ordering_reverse, Ordering, Less}
-use Rattle.tree_shape.proofs.Imports.{Equal, Greater, key_cmp, row_cmp, bound_of, same_entry, is_among, is_past, AscendsPast, IsAscending, Bound, Entry, is_past-trans, same_entry-self}
+use Rattle.tree_shape.proofs.Imports.{Equal, Greater, key_cmp, row_cmp, bound_of, same_entry, is_among, is_past, AscendsPast, IsAscending, Bound, Entry, is_past-trans, same_entry-self, or-true}
 use Rattle.tree_shape.proofs.Imports.{AllByRecursion-append, IsKeyFree, IsPlaceOf}
 
 keys_total : IsTotalOrder key_cmp
@@ -61,14 +61,10 @@ key_free e es at ascends place left right =
 pub row_there : (key : List ℕ) (found : Entry) (es : List Entry) (at : ℕ) → slice_get es at ≡ Some found → found.key ≡ key → is_among es (record { key = key; row = found.row }) ≡ true
 row_there key found es at got same = subst (λ (k : List ℕ). is_among es (record { key = k; row = found.row }) ≡ true) same (among es at got)
   where
-    or_true : (b : Bool) → (b || true) ≡ true
-    or_true true = refl
-    or_true false = refl
-
     among : (xs : List Entry) (n : ℕ) → slice_get xs n ≡ Some found → is_among xs found ≡ true
     among [] n got = absurd cc
     among (x ∷ xs) zero got = (let is : x ≡ found = cc in rw (subst (λ (z : Entry). same_entry z found ≡ true) (sym is) (same_entry-self found)) refl)
-    among (x ∷ xs) (suc n) got = rw (among xs n got) (or_true (same_entry x found))
+    among (x ∷ xs) (suc n) got = rw (among xs n got) (or-true (same_entry x found))
 
 -- what follows if none is found
 pub free_if : {P Q : Type 0} (found : Option Row) → (P → Q) → IfNone found P → IfNone found Q

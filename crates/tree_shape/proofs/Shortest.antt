@@ -1,6 +1,6 @@
 -- The shortest beginning of a key that is greater than another key is one byte longer than what the two
 -- share.
-use Rattle.std.proofs.Common.{◌≡◌, ℕ, zero, suc, ◌==◌, if◌then◌else◌, ◌<◌, ◌≤◌, Bool, true, false, None, List, [], ◌∷◌, length, take, refl, sym, subst, ◌∙◌, arith}
+use Rattle.std.proofs.Common.{◌≡◌, ℕ, zero, suc, ◌==◌, if◌then◌else◌, ◌<◌, ◌≤◌, Bool, true, false, true≢false, None, List, [], ◌∷◌, length, take, refl, sym, subst, ◌∙◌, arith}
 use Rattle.tree_shape.proofs.Imports.{nat_cmp, is_lt, is_gt, ordering_then, ordering_reverse, nat_cmp_total, nat_list_cmp_total, tied_itself, eqb-true, eq-eqb, exact_unsigned, Ordering, Less}
 use Rattle.tree_shape.proofs.Imports.{Equal, Greater, key_cmp, bound_cmp, bound_of, IsBefore, Bound, Entry, bounds_total, IsKeyBefore, shared, IsShortestPast}
 
@@ -14,10 +14,7 @@ same_tie x y e =
 other_apart : (x y : ℕ) → (x == y) ≡ false → nat_cmp x y ≡ Equal → ⊥
 other_apart x y e t =
     let same : (x == y) ≡ true = eq-eqb x y (exact_unsigned x y t) in
-    clash (sym same ∙ e)
-  where
-    clash : true ≡ false → ⊥
-    clash h = cc
+    true≢false (sym same ∙ e)
 
 then_less : (r o p : Ordering) → (r ≡ Equal → ⊥) → is_lt (ordering_then r o) ≡ true → is_lt (ordering_then r p) ≡ true
 then_less Less o p n h = refl
@@ -104,10 +101,7 @@ stands_before last key h = by (key_cmp last.key key) h
 
 -- two keys can't be the same if one stands before the other
 pub never_itself : (key : List ℕ) → IsKeyBefore key key → ⊥
-never_itself key h = clash (sym h ∙ rw (tied_itself nat_list_cmp_total key) refl)
-  where
-    clash : true ≡ false → ⊥
-    clash h = cc
+never_itself key h = true≢false (sym h ∙ rw (tied_itself nat_list_cmp_total key) refl)
 
 -- what stands before stays no greater
 pub not_behind : (a b : Bound) → IsBefore a b → is_lt (bound_cmp b a) ≡ false

@@ -1,5 +1,5 @@
 -- What a page tells a call, as the laws say it.
-use Rattle.std.proofs.Common.{◌≡◌, ℕ, suc, inl, inr, true, false, List, [], ◌∷◌, ◌++◌, Some, None, is_some, refl, sym, ap, subst, ◌∙◌, arith}
+use Rattle.std.proofs.Common.{◌≡◌, ℕ, suc, inl, inr, true, List, [], ◌∷◌, ◌++◌, None, is_some, refl, sym, ap, subst, ◌∙◌, arith}
 use Rattle.tree_shape.specs.Chains.{IsRunOf, context_after, first_context, IsIn, IsRootLevel, downlinks, due_links, AreDistinct}
 use Rattle.tree_shape.specs.Walks.{is_fit}
 use Rattle.tree_shape.specs.Laws.{ChainsAreShown, RootIsAPlace, PlacesGoRight, PlacesCover, LivePlacesStand, PlacesKeepTheirLevel, CoversLeadDown, PlacesLeadOn, CoverIsOne, HeldOnItsCover, FrontierCovers, IncompleteSplitHasItsLink, SeparatorFits, OnlyTheRootIsClear, HasItsHalf, IncompleteSplitHasItsHalf, PlacesStay}
@@ -14,6 +14,7 @@ use Rattle.tree_shape.proofs.Parents.{incomplete_at, has_link, added_within, sep
 use Rattle.tree_shape.proofs.Places.{fit_at, cover_at}
 use Rattle.tree_shape.proofs.Reading.{root_fits, goes_right, place_covers, on_chain_alive, place_level, held_on_cover, frontier_covers}
 use Rattle.tree_shape.proofs.Walks.{place_stays, place_leads, cover_unique}
+use Rattle.tree_shape.proofs.Imports.{false≢true, same_Some}
 
 pub chains_are_shown : ChainsAreShown
 chains_are_shown = chain_unique
@@ -70,7 +71,7 @@ pub separator_fits_after : SeparatorFits
 separator_fits_after at used root top chain level p q new s added tree in_top fit split high right q_in put =
     let f = incomplete_at at level (chain level) p s (tree.runs level (omega arith)) fit split high in
     let w = split_at q (chain (suc level)) q_in in
-    let same : new ≡ f.new = some_is new f.new (sym right ∙ f.right_is) in
+    let same : new ≡ f.new = same_Some new f.new (sym right ∙ f.right_is) in
     separator_fits (context_after at first_context w.front).low p new s (at q).links added (at q).high put
     (added_within at level f.front p new s f.rest (subst (λ (n : ℕ). IsIncomplete at level first_context f.front p n s f.rest) (sym same) f.incomplete)
     (subst (λ (n : ℕ). AreDistinct (f.front ++ p ∷ n ∷ f.rest)) (sym same) (subst AreDistinct f.is (tree.distinct level (omega arith))))
@@ -79,9 +80,6 @@ separator_fits_after at used root top chain level p q new s added tree in_top fi
     (subst (λ (n : ℕ). downlinks at first_context (chain (suc level)) ≡ due_links at first_context (f.front ++ p ∷ n ∷ f.rest)) (sym same)
     (subst (λ (xs : List ℕ). downlinks at first_context (chain (suc level)) ≡ due_links at first_context xs) f.is (tree.parents level in_top))))
     added put)
-  where
-    some_is : (a b : ℕ) → Some a ≡ Some b → a ≡ b
-    some_is a b e = cc
 
 pub only_the_root_is_clear : OnlyTheRootIsClear
 only_the_root_is_clear at used root top chain aim b tree fit =
@@ -94,13 +92,10 @@ incomplete_split_has_its_half at used root top chain level p s tree in_top p_in 
     w : SplitAt p (chain level)
     w = split_at p (chain level) p_in
 
-    no_high : false ≡ true → ⊥
-    no_high e = cc
-
     with_back : (back : List ℕ) → chain level ≡ w.front ++ p ∷ back → HasItsHalf at (chain level) p
     with_back [] is =
         let here = run_back at level first_context w.front (p ∷ []) None (subst (λ (xs : List ℕ). IsRunOf at level first_context xs None) is (tree.runs level in_top)) in
-        absurd (no_high (sym here.0.high_is ∙ ap is_some high))
+        absurd (false≢true (sym here.0.high_is ∙ ap is_some high))
     with_back (new ∷ rest) is =
         let run = subst (λ (xs : List ℕ). IsRunOf at level first_context xs None) is (tree.runs level in_top) in
         let here = run_back at level first_context w.front (p ∷ new ∷ rest) None run in

@@ -2,7 +2,7 @@
 use Rattle.std.proofs.Common.{◌≡◌, ◌≢◌, ◌⊎◌, ℕ, suc, ◌<◌, ◌≤◌, inl, inr, Bool, true, List, [], ◌∷◌, ◌++◌, Some, None, refl, sym, ap, subst, ◌∙◌, arith}
 use Rattle.std.specs.List.{filter}
 use Rattle.tree_shape.proofs.Imports.{cases_eq, bound_of, Bound, Entry, PageState, Live, Deleted, Node, IsRunOf, LeftContext, context_after, first_context, IsIn, AreDistinct, IsRootLevel, IsTreeOf}
-use Rattle.tree_shape.proofs.Imports.{entry_aim, bound_aim, is_fit, IsFitOn, KeepsPlaces, SameOrder, IsInsertion, IsRemoval, InsertionKeeps, RemovalKeeps, LeafSplitKeeps, FinishKeeps}
+use Rattle.tree_shape.proofs.Imports.{entry_aim, bound_aim, is_fit, IsFitOn, KeepsPlaces, SameOrder, IsInsertion, IsRemoval, InsertionKeeps, RemovalKeeps, LeafSplitKeeps, FinishKeeps, same_Some}
 use Rattle.tree_shape.proofs.Imports.{ParentSplitKeeps, RootSplitKeeps}
 use Rattle.tree_shape.proofs.Runs.{run_back, SplitAt, split_at}
 use Rattle.tree_shape.proofs.Members.{member, in_append_left, in_append_right, apart_sides, apart_back, not_in_apart}
@@ -163,9 +163,6 @@ leaf_split_keeps at at' number number' used root top chain least b new e tree h 
         apart_back_of : (c : ℕ) → IsIn c f.back → c ≢ b
         apart_back_of c i same = not_in_apart b c f.back (apart_back f.front (b ∷ f.back) distinct).0 i (sym same)
 
-some_is : (a b : ℕ) → Some a ≡ Some b → a ≡ b
-some_is a b e = cc
-
 -- page p, with an incomplete split, and the page q of the level above, as they stand on their chains
 record Standing (at : ℕ → Node) (chain : ℕ → List ℕ) (level p new q : ℕ) : Type 0 where
   front : List ℕ
@@ -186,7 +183,7 @@ standing at used root top chain level p new q s tree tall incomplete high right 
   rest = f.rest;
   left = w.front;
   right = w.back;
-  lower_is = f.is ∙ ap (λ (n : ℕ). f.front ++ p ∷ n ∷ f.rest) (some_is f.new new (sym f.right_is ∙ right));
+  lower_is = f.is ∙ ap (λ (n : ℕ). f.front ++ p ∷ n ∷ f.rest) (same_Some f.new new (sym f.right_is ∙ right));
   upper_is = w.is;
   level_is = (member at level first_context (f.front ++ p ∷ f.new ∷ f.rest) None p f.incomplete.run (in_append_right p f.front (p ∷ f.new ∷ f.rest) (inl refl))).0;
   p_alive = incomplete_alive at level first_context f.front p f.new s f.rest f.incomplete;

@@ -1,7 +1,8 @@
 -- How much is left to do, and what is counted, after a page that is read.
-use Rattle.std.proofs.Common.{◌≡◌, ◌≢◌, ℕ, zero, suc, ◌+◌, ◌-◌, ◌*◌, ◌<◌, ◌≤◌, inl, inr, Bool, true, false, Option, Some, None, List, [], ◌∷◌, length, slice_get, refl, sym, ap, subst, ◌∙◌, arith}
+use Rattle.std.proofs.Common.{◌≡◌, ◌≢◌, ℕ, zero, suc, ◌+◌, ◌-◌, ◌*◌, ◌<◌, ◌≤◌, inl, inr, Bool, true, false, Option, Some, None, List, length, slice_get, refl, sym, ap, subst, ◌∙◌, arith}
 use Rattle.vacuum.proofs.Imports.{cases_eq, cases_lt, is_among, Row, Entry, entries_of, HasEntries, Items, Meta, Entries, Downlinks, Page, PageState, Live, HalfDead, Deleted, live_entries, State}
 use Rattle.vacuum.proofs.Imports.{IsLeafAt, entry_count, entries_below, IsBelow, IsCounted, next_block, last_read, moves_of, cursor_past, moved_beyond, bulk_delete_left, Backtrack, BulkDeleteOp}
+use Rattle.vacuum.proofs.Imports.{slice_get_past}
 
 -- a block less, and no more moves than one block brings
 block_less : (n k m : ℕ) → m < k → n * k + m < suc n * k
@@ -79,15 +80,10 @@ counts_on dead st new op next_page kept gone h others turn count clean unchanged
           h.clean block page e (rw is at lt) (record { found = ap (λ (ps : List Page). slice_get ps block) (sym (unchanged b is)) ∙ at.found; alive = at.alive; leaf = at.leaf }) on;
     }
 
-none_past : (pages : List Page) (b : ℕ) → length pages ≤ b → slice_get pages b ≡ None
-none_past [] b le = refl
-none_past (p ∷ pages) zero le = absurd (omega arith)
-none_past (p ∷ pages) (suc b) le = none_past pages b (omega arith)
-
 -- after the last page nothing is counted
 pub counted_beyond : (pages : List Page) (n : ℕ) → length pages ≤ n → entries_below pages n ≡ entries_below pages (length pages)
 counted_beyond pages zero le = (let none : length pages ≡ 0 = omega (arith, le) in rw none refl)
 counted_beyond pages (suc n) le = elim (cases_lt n (length pages)) [
   | inl lt ↦ (let same : length pages ≡ suc n = omega (arith, le, lt) in ap (entries_below pages) (sym same))
-  | inr ge ↦ rw (none_past pages n ge) (let r = counted_beyond pages n ge in omega (arith, r))
+  | inr ge ↦ rw (slice_get_past pages n ge) (let r = counted_beyond pages n ge in omega (arith, r))
 ]

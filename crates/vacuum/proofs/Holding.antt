@@ -1,23 +1,11 @@
 -- What keeps a bulk delete from a leaf: any latch or pin of another session.
-use Rattle.std.proofs.Common.{◌≡◌, ◌≢◌, ℕ, suc, inl, inr, Bool, true, false, not, ◌&&◌, ◌||◌, ◌==◌, List, [], ◌∷◌, length, refl, sym, ap, ◌∙◌}
+use Rattle.std.proofs.Common.{◌≡◌, ◌≢◌, ℕ, suc, inl, inr, true, false, true≢false, not, ◌&&◌, ◌==◌, List, [], ◌∷◌, length, refl, sym, ap, ◌∙◌}
 use Rattle.latch_table.specs.declared.mode.Mode.{Mode}
-use Rattle.vacuum.proofs.Imports.{cases_lt, cases_Bool, or_cases, and_parts, Holding, Table, excludes, has_pin, holding_of, holding_excludes, latches_exclude, pins_exclude, others_exclude}
+use Rattle.vacuum.proofs.Imports.{cases_lt, cases_Bool, or_cases, and_parts, Holding, Table, excludes, has_pin, holding_of, holding_excludes, latches_exclude, pins_exclude, others_exclude, and_from, or_left, or_right}
 use Rattle.vacuum.proofs.Imports.{is_held_by_another, Shared, Exclusive, Cleanup}
 use Rattle.latch_table.specs.declared.mode.Latch.{Latch}
 use Rattle.latch_table.proofs.Tables.{is_held_by_another-free}
 use Rattle.descent.proofs.Tables.{out_of_table}
-
-or_left : (a b : Bool) → a ≡ true → (a || b) ≡ true
-or_left true b h = refl
-or_left false b h = absurd cc
-
-or_right : (a b : Bool) → b ≡ true → (a || b) ≡ true
-or_right true b h = refl
-or_right false b h = h
-
-and_both : (a b : Bool) → a ≡ true → b ≡ true → (a && b) ≡ true
-and_both true b p q = q
-and_both false b p q = absurd cc
 
 -- what excludes any latch excludes one for cleanup
 excludes_cleanup : (held asked : Mode) → excludes held asked ≡ true → excludes held Cleanup ≡ true
@@ -29,7 +17,7 @@ latches_too : (latches : List Latch) (block : ℕ) (asked : Mode) → latches_ex
 latches_too [] block asked h = absurd cc
 latches_too (l ∷ latches) block asked h = elim (or_cases ((l.block == block) && excludes l.mode asked) (latches_exclude latches block asked) h) [
   | inl here ↦ (let p = and_parts (l.block == block) (excludes l.mode asked) here in
-      or_left ((l.block == block) && excludes l.mode Cleanup) (latches_exclude latches block Cleanup) (and_both (l.block == block) (excludes l.mode Cleanup) p.0 (excludes_cleanup l.mode asked p.1)))
+      or_left ((l.block == block) && excludes l.mode Cleanup) (latches_exclude latches block Cleanup) (and_from (l.block == block) (excludes l.mode Cleanup) p.0 (excludes_cleanup l.mode asked p.1)))
   | inr there ↦ or_right ((l.block == block) && excludes l.mode Cleanup) (latches_exclude latches block Cleanup) (latches_too latches block asked there)
 ]
 
@@ -50,7 +38,7 @@ others_too from (holding ∷ table) session block asked h =
     elim (or_cases (not (from == session) && holding_excludes holding block asked) (others_exclude (suc from) table session block asked) h) [
       | inl here ↦ (let p = and_parts (not (from == session)) (holding_excludes holding block asked) here in
           or_left (not (from == session) && holding_excludes holding block Cleanup) (others_exclude (suc from) table session block Cleanup)
-          (and_both (not (from == session)) (holding_excludes holding block Cleanup) p.0 (holding_too holding block asked p.1)))
+          (and_from (not (from == session)) (holding_excludes holding block Cleanup) p.0 (holding_too holding block asked p.1)))
       | inr there ↦ or_right (not (from == session) && holding_excludes holding block Cleanup) (others_exclude (suc from) table session block Cleanup)
           (others_too (suc from) table session block asked there)
     ]
@@ -58,19 +46,16 @@ others_too from (holding ∷ table) session block asked h =
 pub held_for_cleanup : (table : Table) (session block : ℕ) (asked : Mode) → is_held_by_another table session block asked ≡ true → is_held_by_another table session block Cleanup ≡ true
 held_for_cleanup table session block asked h = others_too 0 table session block asked h
 
-true_false : true ≡ false → ⊥
-true_false h = cc
-
 pub free_for_all : (table : Table) (session block : ℕ) (asked : Mode) → is_held_by_another table session block Cleanup ≡ false → is_held_by_another table session block asked ≡ false
 free_for_all table session block asked free = elim (cases_Bool (is_held_by_another table session block asked)) [
-  | inl held ↦ absurd (true_false (sym (held_for_cleanup table session block asked held) ∙ free))
+  | inl held ↦ absurd (true≢false (sym (held_for_cleanup table session block asked held) ∙ free))
   | inr free_of ↦ free_of
 ]
 
 -- a leaf that another session has pinned isn't free for cleanup
 pub pinned_is_held : (table : Table) (session other block : ℕ) → other ≢ session → has_pin (holding_of table other).pins block ≡ true → is_held_by_another table session block Cleanup ≡ false → ⊥
 pinned_is_held table session other block differ pin free = elim (cases_lt other (length table)) [
-  | inl lt ↦ true_false (sym (or_right (latches_exclude (holding_of table other).latches block Cleanup) (has_pin (holding_of table other).pins block) pin)
+  | inl lt ↦ true≢false (sym (or_right (latches_exclude (holding_of table other).latches block Cleanup) (has_pin (holding_of table other).pins block) pin)
       ∙ is_held_by_another-free table session block Cleanup other lt differ free)
-  | inr ge ↦ true_false (sym pin ∙ ap (λ (h : Holding). has_pin h.pins block) (out_of_table table other ge))
+  | inr ge ↦ true≢false (sym pin ∙ ap (λ (h : Holding). has_pin h.pins block) (out_of_table table other ge))
 ]

@@ -1,5 +1,5 @@
 -- What several proofs of this crate import, passed on from one place. Declares nothing.
-pub use Rattle.std.proofs.lemmas.Bool.{and_parts, cases_Bool, cases_eq, cases_lt, lt-ltb, ltb-true, or_cases}
+pub use Rattle.std.proofs.lemmas.Bool.{and_from, and_parts, cases_Bool, cases_eq, cases_lt, lt-ltb, ltb-true, not-true, or_cases, or_left, or_right}
 pub use Rattle.index_model.specs.Actions.{Effect, Remove, said_of}
 pub use Rattle.index_model.specs.Faults.{HasCause}
 pub use Rattle.index_model.specs.Order.{IsAscending, IsEntry, IsUpTo, is_among}
@@ -19,8 +19,9 @@ pub use Rattle.page_action.proofs.StoredPages.{stored_page}
 pub use Rattle.page_action.specs.Contents.{entry_on_live_leaf, is_on, live_entries}
 pub use Rattle.page_action.specs.States.{Backing, Continues, IsLater, State, after_act}
 pub use Rattle.page_action.specs.Stored.{AreActable, IsStored}
+pub use Rattle.std.proofs.lemmas.Option.{slice_get_past, slice_get_within}
 pub use Rattle.tree_shape.specs.Edits.{removed_from}
-pub use Rattle.tree_acts.proofs.Overlays.{inside, node_there, page_length, page_other, page_there}
+pub use Rattle.tree_acts.proofs.Overlays.{node_there, page_length, page_other, page_there}
 pub use Rattle.tree_acts.proofs.Removing.{leaf_begins_trail, leaf_is, removing_flags, removing_lasts}
 pub use Rattle.tree_acts.proofs.Words.{contents_held, trail_in}
 pub use Rattle.tree_acts.specs.Acts.{ContentsLose, EntriesAreRemoved, TreeLasts}

@@ -1,5 +1,5 @@
 -- What a bulk delete knows lasts while others act, and what is due to it is to come still.
-use Rattle.std.proofs.Common.{◌≡◌, ℕ, ◌<◌, ◌≤◌, inl, inr, true, false, Option, Some, None, List, slice_get, sym, subst, ◌∙◌, arith}
+use Rattle.std.proofs.Common.{◌≡◌, ℕ, ◌<◌, ◌≤◌, inl, inr, true, true≢false, Option, Some, None, List, slice_get, sym, subst, ◌∙◌, arith}
 use Rattle.vacuum.specs.Laws.{BulkDeletesAreUndisturbed, DueIsUndisturbed, AllIsToCome}
 use Rattle.vacuum.proofs.Imports.{cases_lt, Effect, is_among, Entry, entries_of, Page, State, stored_page, IsLeafAt, WasLeaf, HasOldEntries, LeafBecomes, LeafIsHalved, LeafPagesStay, leaf_is}
 use Rattle.vacuum.proofs.Imports.{NumbersStay, IsGoingBack, last_read, BlockIsToCome, ahead, sibling, led, WentBackFromLeaf, Backtrack}
@@ -19,9 +19,6 @@ undisturbed old new op rely fits = record {
 
 pub same_page : (pages : List Page) (block : ℕ) (a b : Page) → slice_get pages block ≡ Some a → slice_get pages block ≡ Some b → a ≡ b
 same_page pages block a b x y = (let k : Some a ≡ Some b = sym x ∙ y in cc)
-
-true_false : true ≡ false → ⊥
-true_false h = cc
 
 module _ (effect : Option Effect) (old new : State) (cursor : ℕ) (backtrack : Option Backtrack) (stay : LeafPagesStay effect old new) (went : WentBackFromLeaf old cursor backtrack) where
   -- the right half of a leaf to come is to come
@@ -79,7 +76,7 @@ due_undisturbed due effect old new cursor backtrack stay added h = record {
     kept : (was now : Page) (e : Entry) → HasOldEntries effect was now → is_among (entries_of now.items) e ≡ true → due e ≡ true → is_among (entries_of was.items) e ≡ true
     kept was now e old_ones on is_due = elim (old_ones e on) [
       | inl there ↦ there
-      | inr new_one ↦ absurd (true_false (sym is_due ∙ added e new_one))
+      | inr new_one ↦ absurd (true≢false (sym is_due ∙ added e new_one))
     ]
 
     still : (block : ℕ) (page : Page) (e : Entry) → IsLeafAt new.pages block page → is_among (entries_of page.items) e ≡ true → due e ≡ true → (was : Page) → IsLeafAt old.pages block was

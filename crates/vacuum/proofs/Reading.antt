@@ -7,8 +7,8 @@ use Rattle.tree_shape.specs.Walks.{IsTrail, reached, over}
 use Rattle.tree_acts.specs.Trees.{HasTree, HasTrail}
 use Rattle.tree_acts.proofs.Lasting.{deleted_in_use}
 use Rattle.tree_acts.proofs.Meanings.{trail_moves_right, trail_is_short_here}
-use Rattle.vacuum.proofs.Imports.{cases_eq, lt-ltb, HasCause, is_among, Row, Entry, Fault, Stopped, Holding, Table, HasRoom, has_pin, holding_of, is_held_by_another, Cleanup, entries_of}
-use Rattle.vacuum.proofs.Imports.{HasEntries, Page, Live, live_entries, State, Continues, IsStored, removed_from, EntriesAreRemoved, IsLeafAt, inside, page_there, page_other, page_length}
+use Rattle.vacuum.proofs.Imports.{cases_eq, lt-ltb, HasCause, is_among, Row, Entry, Fault, Stopped, Holding, Table, HasRoom, has_pin, holding_of, is_held_by_another, Cleanup, entries_of, slice_get_within}
+use Rattle.vacuum.proofs.Imports.{HasEntries, Page, Live, live_entries, State, Continues, IsStored, removed_from, EntriesAreRemoved, IsLeafAt, page_there, page_other, page_length}
 use Rattle.vacuum.proofs.Imports.{leaf_begins_trail, removing_lasts, trail_in, IsInOrder, StepEffect, IsOneActAtMost, one_act, one_nothing, nothing_else, IsGoingBack, BulkDeleteInvariant}
 use Rattle.vacuum.proofs.Imports.{BulkDeleteSteps, causes_of_deleting, removes, dead_of, dead_at, has_dead, stats_of, IsBelow, IsCounted, entry_count, lives, without_dead, dead_entries}
 use Rattle.vacuum.proofs.Imports.{next_block, last_read, moves_of, cursor_past, IsSibling, DueIsToCome, LeadsBack, TurnsTo, TurnsNoMore, IsPruned, moved_beyond, written, bulk_delete_left}
@@ -58,7 +58,7 @@ ends g dead op store stats alive none last told steps = record {
   stats = told;
   less = tt;
   due = λ honest due of h. none_is_due due (g.state store) op.cursor last (subst (DueIsToCome due (g.state store) op.cursor) none h);
-  pins = λ honest other block page differ at pin before. absurd (let i = inside (g.state store).pages block page at.found in omega (arith, i, last, before));
+  pins = λ honest other block page differ at pin before. absurd (let i = slice_get_within (g.state store).pages block page at.found in omega (arith, i, last, before));
   counts = λ honest h. ap (λ (s : VacuumStats). s.num_index_tuples) told ∙ h.counted ∙ counted_beyond (g.state store).pages op.cursor last;
   stepped = λ honest order fits. record { state = refl; op = refl; last = last; none = none };
 }

@@ -10,9 +10,9 @@ use Rattle.page_codec.specs.Spelling.{count_of}
 use Rattle.page_action.proofs.Writable.{writable}
 use Rattle.tree_shape.proofs.Removal.{AscendsPast-filter, AllByRecursion-filter, is_among-filter}
 use Rattle.tree_acts.proofs.Leaving.{removing_leaves}
-use Rattle.vacuum.proofs.Imports.{cases_Bool, and_parts, Remove, said_of, is_among, IsUpTo, IsAscending, IsEntry, Row, Entry, is_held_by_another, Exclusive, Cleanup, entries_of, HasEntries}
-use Rattle.vacuum.proofs.Imports.{with_entries, renewed, Items, Meta, Entries, Downlinks, Page, PageState, Live, live_entries, entry_on_live_leaf, State, after_act, IsStored, AreActable}
-use Rattle.vacuum.proofs.Imports.{stored_page, removed_from, EntriesAreRemoved, TreeLasts, ContentsLose, node_there, inside, removing_lasts, removing_flags, contents_held, IsInOrder, StepEffect}
+use Rattle.vacuum.proofs.Imports.{cases_Bool, and_parts, Remove, said_of, is_among, IsUpTo, IsAscending, IsEntry, Row, Entry, is_held_by_another, Exclusive, Cleanup, entries_of, HasEntries, not-true}
+use Rattle.vacuum.proofs.Imports.{with_entries, renewed, Items, Meta, Entries, Downlinks, Page, PageState, Live, live_entries, entry_on_live_leaf, State, after_act, IsStored, AreActable, slice_get_within}
+use Rattle.vacuum.proofs.Imports.{stored_page, removed_from, EntriesAreRemoved, TreeLasts, ContentsLose, node_there, removing_lasts, removing_flags, contents_held, IsInOrder, StepEffect}
 use Rattle.vacuum.proofs.Imports.{others_rely, lives, without_dead, dead_entries, IsPruned, PrunedLeaf}
 use Rattle.vacuum.proofs.Holding.{free_for_all}
 
@@ -70,11 +70,7 @@ is_left dead page alive leaf false none = record {
 
 -- each entry that is left lives
 pub left_lives : (dead : Row → Bool) (page : Page) (e : Entry) → is_among (entries_of (without_dead dead page).items) e ≡ true → dead e.row ≡ false
-left_lives dead page e on = lives_is (dead e.row) (and_parts (is_among (entries_of page.items) e) (lives dead e) (sym (is_among-filter (lives dead) (entries_of page.items) e) ∙ on)).1
-  where
-    lives_is : (b : Bool) → not b ≡ true → b ≡ false
-    lives_is true h = absurd cc
-    lives_is false h = refl
+left_lives dead page e on = not-true (dead e.row) (and_parts (is_among (entries_of page.items) e) (lives dead e) (sym (is_among-filter (lives dead) (entries_of page.items) e) ∙ on)).1
 
 -- each entry that is lost is dead
 pub dead_are : (dead : Row → Bool) (page : Page) (e : Entry) → is_among (dead_entries dead page) e ≡ true → dead e.row ≡ true
@@ -149,7 +145,7 @@ swept_may dead limits used block page alive leaf stored in_use few = (
 on_page : (st : State) (page : Page) (x : Entry) → slice_get st.pages page.block ≡ Some page → page.state ≡ Live → is_among (entries_of page.items) x ≡ true → entry_on_live_leaf st.pages x ≡ true
 on_page st page x found alive on = (contents_held st.pages x).1 (record {
   block = page.block;
-  in_use = inside st.pages page.block page found;
+  in_use = slice_get_within st.pages page.block page found;
   on = rw (node_there st.pages page.block page found) (rw alive on);
 })
 

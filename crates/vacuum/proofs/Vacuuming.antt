@@ -1,7 +1,7 @@
 -- What reading one page leaves of what is due: it is to come still, except for what stood on that page.
-use Rattle.std.proofs.Common.{◌≡◌, ◌≢◌, ◌⊎◌, ℕ, suc, ◌<◌, ◌≤◌, inl, inr, Bool, true, false, ◌||◌, Option, Some, None, List, [], ◌∷◌, length, slice_get, refl, sym, ap, subst, ◌∙◌, arith}
-use Rattle.vacuum.proofs.Imports.{cases_eq, cases_lt, is_among, Entry, entries_of, Items, Meta, Entries, Downlinks, Page, PageState, Live, HalfDead, Deleted, live_entries, is_on}
-use Rattle.vacuum.proofs.Imports.{entry_on_live_leaf, State, IsLeafAt, WasLeaf, inside, next_block, last_read, cursor_past, IsSibling, BlockIsToCome, ahead, sibling, led, WentBackFromLeaf}
+use Rattle.std.proofs.Common.{◌≡◌, ◌≢◌, ◌⊎◌, ℕ, suc, ◌<◌, ◌≤◌, inl, inr, Bool, true, false, Option, Some, None, List, [], ◌∷◌, length, slice_get, refl, sym, ap, subst, ◌∙◌, arith}
+use Rattle.vacuum.proofs.Imports.{cases_eq, cases_lt, is_among, Entry, entries_of, Items, Meta, Entries, Downlinks, Page, PageState, Live, HalfDead, Deleted, live_entries, is_on, or_cases, slice_get_within}
+use Rattle.vacuum.proofs.Imports.{entry_on_live_leaf, State, IsLeafAt, WasLeaf, next_block, last_read, cursor_past, IsSibling, BlockIsToCome, ahead, sibling, led, WentBackFromLeaf}
 use Rattle.vacuum.proofs.Imports.{DueIsToCome, LeadsBack, Backtrack}
 
 -- the page that was read leads on as it does, and no other page is changed
@@ -82,10 +82,6 @@ pub record IsOnLeaf (pages : List Page) (e : Entry) : Type 0 where
 on_leaf_up : (first : Page) (pages : List Page) (e : Entry) → IsOnLeaf pages e → IsOnLeaf (first ∷ pages) e
 on_leaf_up first pages e h = record { block = suc h.block; page = h.page; at = record { found = h.at.found; alive = h.at.alive; leaf = h.at.leaf }; on = h.on }
 
-or_cases : (a b : Bool) → (a || b) ≡ true → (a ≡ true) ⊎ (b ≡ true)
-or_cases true b h = inl refl
-or_cases false b h = inr h
-
 on_first : (page : Page) (pages : List Page) (e : Entry) → is_on page e ≡ true → IsOnLeaf (page ∷ pages) e
 on_first page pages e on = by page.state page.items refl refl on
   where
@@ -107,7 +103,7 @@ on_leaf (page ∷ pages) e h = elim (or_cases (is_on page e) (entry_on_live_leaf
 pub none_comes : (st : State) (cursor : ℕ) {block : ℕ} → length st.pages ≤ cursor → BlockIsToCome st cursor None block → length st.pages ≤ block
 none_comes st cursor last (ahead le) = omega (arith, last, le)
 none_comes st cursor last (sibling is) = absurd is
-none_comes st cursor last (led {from} page at carries right below rest) = absurd (let i = inside st.pages from page at.found in let past = none_comes st cursor last rest in omega (arith, i, past))
+none_comes st cursor last (led {from} page at carries right below rest) = absurd (let i = slice_get_within st.pages from page at.found in let past = none_comes st cursor last rest in omega (arith, i, past))
 
 pub none_is_due : (due : Entry → Bool) (st : State) (cursor : ℕ) → length st.pages ≤ cursor → DueIsToCome due st cursor None → (e : Entry) → due e ≡ true → entry_on_live_leaf st.pages e ≡ false
 none_is_due due st cursor last h e is_due = by (entry_on_live_leaf st.pages e) refl
@@ -117,5 +113,5 @@ none_is_due due st cursor last h e is_due = by (entry_on_live_leaf st.pages e) r
     by true is =
         let o = on_leaf st.pages e is in
         let past = none_comes st cursor last (h.to_come o.block o.page e o.at o.on is_due) in
-        let i = inside st.pages o.block o.page o.at.found in
+        let i = slice_get_within st.pages o.block o.page o.at.found in
         absurd (omega (arith, i, past))

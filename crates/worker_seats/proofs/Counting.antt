@@ -1,11 +1,12 @@
 -- Counting a log of notes by its workers.
 use Rattle.std.proofs.Common.{◌≡◌, ◌≢◌, ◌⊎◌, ◌==◌, if◌then◌else◌, ℕ, zero, suc, ◌+◌, ◌<◌, ◌≤◌, List, [], ◌∷◌, length, refl, sym, ap, ◌∙◌, inl, inr, ⊎_elim, arith, length-append, ◌++◌, map, Some, slice_get, subst}
 use Rattle.std.proofs.lemmas.Bool.Decides.{nat_tests}
+use Rattle.std.proofs.lemmas.Bool.{cases_eq, cases_lt}
 use Rattle.crossbeam_queue.specs.Fifo.{Held}
 use Rattle.worker_seats.specs.declared.job_queue.QueueView.{QueueView}
 use Rattle.worker_seats.specs.Queue.{weigh, below, queue_view, KnowsAll, jobs_in, sum_below, sum_over, at_alone, times}
 use Rattle.worker_seats.specs.Seats.{notes_from, notes_by}
-use Rattle.worker_seats.proofs.Queueing.{weigh-append, is_here, nat_cases}
+use Rattle.worker_seats.proofs.Queueing.{weigh-append, is_here}
 
 sum_same : (n : ℕ) (f g : ℕ → ℕ) → ((k : ℕ) → f k ≡ g k) → sum_below n f ≡ sum_below n g
 sum_same zero f g e = refl
@@ -31,7 +32,7 @@ sum_one zero w m = omega arith
 sum_one (suc n) w m = ⊎_elim
     (λ (e : w ≡ n). (let r = sum_none n w m (omega (arith, e)) in let t = then_m w n m e in omega (arith, r, t)))
     (λ (ne : w ≢ n). (let t = else_0 w n m ne in omega (arith, sum_one n w m, t)))
-    (nat_cases w n)
+    (cases_eq w n)
 
 -- ... and it is one of those below n
 sum_own : (n w m : ℕ) → w < n → sum_below n (λ k. if w == k then m else 0) ≡ m
@@ -39,7 +40,7 @@ sum_own zero w m l = absurd (omega (arith, l))
 sum_own (suc n) w m l = ⊎_elim
     (λ (e : w ≡ n). (let r = sum_none n w m (omega (arith, e)) in let t = then_m w n m e in omega (arith, r, t)))
     (λ (ne : w ≢ n). (let t = else_0 w n m ne in omega (arith, sum_own n w m (omega (arith, l, ne)), t)))
-    (nat_cases w n)
+    (cases_eq w n)
 
 -- what a worker's notes weigh
 weigh_notes : (h : ℕ → ℕ) (k w : ℕ) (x : ℕ × ℕ) (xs : List (ℕ × ℕ)) → weigh h (jobs_in (notes_from k w (x ∷ xs))) ≡ (if x.0 == w then h x.1 else 0) + weigh h (jobs_in (notes_from (suc k) w xs))
@@ -81,12 +82,7 @@ first_seated n k x xs e =
     ⊎_elim
     (λ (l : x.0 < n). (l, omega (arith, e, a, b, rest, long, one)))
     (λ (l : n ≤ x.0). absurd (let none = sum_none n x.0 1 l in omega (arith, e, a, b, rest, long, none)))
-    (lt_or x.0 n)
-  where
-    lt_or : (m n : ℕ) → (m < n) ⊎ (n ≤ m)
-    lt_or m zero = inr (omega arith)
-    lt_or zero (suc n) = inl (omega arith)
-    lt_or (suc m) (suc n) = ⊎_elim (λ l. inl (omega (arith, l))) (λ l. inr (omega (arith, l))) (lt_or m n)
+    (cases_lt x.0 n)
 
 -- ... then what they have weighs as much as all notes
 shares_whole : (h : ℕ → ℕ) (n k : ℕ) (log : List (ℕ × ℕ)) → counted n k log ≡ length log → sum_below n (λ w. weigh h (jobs_in (notes_from k w log))) ≡ weigh h (jobs_in log)
@@ -148,7 +144,7 @@ each_once n workers log long drawn j l =
     there (suc n) k l = let a = weigh-append (at_alone k) (below n) (n ∷ []) in ⊎_elim
         (λ (e : n ≡ k). (let b : at_alone k n ≡ 1 = ap (λ m. at_alone k m) e ∙ is_here k in omega (arith, a, b)))
         (λ (ne : n ≢ k). omega (arith, a, there n k (omega (arith, l, ne))))
-        (nat_cases n k)
+        (cases_eq n k)
 
     sum_ones : (n : ℕ) → sum_below n (λ _. 1) ≡ n
     sum_ones zero = refl

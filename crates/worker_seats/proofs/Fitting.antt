@@ -1,7 +1,8 @@
 -- EachViewFits exchange of the seats' cell keeps its rule.
-use Rattle.std.proofs.Common.{◌≡◌, ◌≢◌, ◌⊎◌, ◌==◌, ℕ, zero, suc, ◌+◌, List, [], ◌∷◌, ◌++◌, length, set, Option, Some, None, true, false, true≢false, refl, sym, ap, ◌∙◌, subst, inl, inr, ⊎_elim, arith, if◌then◌else◌}
+use Rattle.std.proofs.Common.{◌≡◌, ◌≢◌, ◌⊎◌, ◌==◌, ℕ, zero, suc, ◌+◌, List, [], ◌∷◌, ◌++◌, length, set, Option, Some, None, true, false, refl, sym, ap, ◌∙◌, subst, inl, inr, ⊎_elim, arith, if◌then◌else◌}
 use Rattle.std.specs.Prelude.{slice_get, slice_set}
 use Rattle.std.proofs.lemmas.Bool.Decides.{nat_tests}
+use Rattle.std.proofs.lemmas.Bool.{false≢true}
 use mathlib.Core.Option.{some, some-ne-none, some-injective}
 use lib.ListN.{get_elem?}
 use Rattle.atomic_table.specs.Table.{State, keeps as still, Step, Allows, Splits, Joins}
@@ -20,9 +21,6 @@ sits_as v w e sits = ap (λ (u : SeatView). u.sits) e ∙ sits
 pub notes_from_snoc : (n w : ℕ) (log : List (ℕ × ℕ)) (x : ℕ × ℕ) → notes_from n w (log ++ x ∷ []) ≡ notes_from n w log ++ (if x.0 == w then (n + length log, x.1) ∷ [] else [])
 notes_from_snoc n w [] x = grind arith
 notes_from_snoc n w (y ∷ log) x = let h = notes_from_snoc (suc n) w log x in grind (arith, h)
-
-off : false ≡ true → ⊥
-off e = true≢false (sym e)
 
 abbrev EachViewFits : ℕ → List (ℕ × ℕ) → List (Option ℕ) → List SeatView → Type 0
 EachViewFits desk log running views = (by : ℕ) (v : SeatView) → get_elem? views by ≡ some v → ViewFits desk log running by v
@@ -96,7 +94,7 @@ pub begins : SeatsFit (keeper_of [] [] ∷ [])
 begins = record { desk = 0; log = []; running = []; each = one; apart = two }
   where
     one : EachViewFits 0 [] [] (keeper_of [] [] ∷ [])
-    one zero v e = subst (ViewFits 0 [] [] 0) (some-injective _ _ e) (record { keeper = λ _. record { desk_is = refl; log_is = refl; running_is = refl }; seat = λ c. absurd (off c) })
+    one zero v e = subst (ViewFits 0 [] [] 0) (some-injective _ _ e) (record { keeper = λ _. record { desk_is = refl; log_is = refl; running_is = refl }; seat = λ c. absurd (false≢true c) })
     one (suc pass) v e = absurd (some-ne-none v (sym e))
 
     two : SitApart (keeper_of [] [] ∷ [])
@@ -205,7 +203,7 @@ module _ (slots pass : ℕ) (v : SeatView) (c : List (ℕ × Unit {0})) (f : ℕ
 
 -- a view that sits for nobody is free
 idle_free : (views : List SeatView) (pass : ℕ) (w : SeatView) → w.sits ≡ false → Free views pass w
-idle_free views pass w idle j u apart e su sw same = off (sym idle ∙ sw)
+idle_free views pass w idle j u apart e su sw same = false≢true (sym idle ∙ sw)
 
 -- the seat leaves the keeper
 pub leaves : (pass : ℕ) (v : SeatView) → v.keeps ≡ true → Splits Rule pass v (keeper_in v) (seat_in v)
@@ -215,16 +213,16 @@ leaves pass v keeps s h at =
     let f = h.each pass v at in
     let k = f.keeper keeps in
     let rest = refit views h pass v at keeps h.log h.running a (λ j u apart e su s. s)
-    (record { keeper = λ _. record { desk_is = k.desk_is; log_is = k.log_is; running_is = k.running_is }; seat = λ c. absurd (off c) }) in
+    (record { keeper = λ _. record { desk_is = k.desk_is; log_is = k.log_is; running_is = k.running_is }; seat = λ c. absurd (false≢true c) }) in
     record {
       desk = h.desk;
       log = h.log;
       running = h.running;
       each = each_snoc h.desk h.log h.running (set views pass a) (seat_in v) rest
-          (λ j. record { keeper = λ c. absurd (off c); seat = λ c. record { job_is = (f.seat c).job_is; notes_is = (f.seat c).notes_is } });
+          (λ j. record { keeper = λ c. absurd (false≢true c); seat = λ c. record { job_is = (f.seat c).job_is; notes_is = (f.seat c).notes_is } });
       apart = apart_snoc (set views pass a) (seat_in v) (apart_set views pass a h.apart (idle_free views pass a refl))
           (λ j u e su sw same. ⊎_elim
-          (λ (x : (j ≡ pass) × (a ≡ u)). off (ap (λ (z : SeatView). z.sits) x.1 ∙ su))
+          (λ (x : (j ≡ pass) × (a ≡ u)). false≢true (ap (λ (z : SeatView). z.sits) x.1 ∙ su))
           (λ (x : (j ≢ pass) × (get_elem? views j ≡ some u)). x.0 (h.apart j pass u v x.1 at su sw same))
           (at_set views pass j a u e));
     }
@@ -238,14 +236,14 @@ widens pass v keeps s h at =
     let running : List (Option ℕ) = h.running ++ None ∷ [] in
     let rest = refit views h pass v at keeps h.log running a
     (λ j u apart e su s. record { job_is = get_front h.running (None ∷ []) u.worker u.job s.job_is; notes_is = s.notes_is })
-    (record { keeper = λ _. record { desk_is = k.desk_is; log_is = k.log_is; running_is = ap (λ l. l ++ None ∷ []) k.running_is }; seat = λ c. absurd (off c) }) in
+    (record { keeper = λ _. record { desk_is = k.desk_is; log_is = k.log_is; running_is = ap (λ l. l ++ None ∷ []) k.running_is }; seat = λ c. absurd (false≢true c) }) in
     record {
       desk = h.desk;
       log = h.log;
       running = running;
       each = each_snoc h.desk h.log running (set views pass a) (seat_of_one_more v) rest
           (λ j. record {
-            keeper = λ c. absurd (off c);
+            keeper = λ c. absurd (false≢true c);
             seat = λ _. record {
               job_is = ap (λ (l : List (Option ℕ)). slice_get running (length l)) k.running_is ∙ get_last h.running None;
               notes_is = ap (λ l. notes_by (length v.running) l) k.log_is;
@@ -253,7 +251,7 @@ widens pass v keeps s h at =
           });
       apart = apart_snoc (set views pass a) (seat_of_one_more v) (apart_set views pass a h.apart (idle_free views pass a refl))
           (λ j u e su sw same. ⊎_elim
-          (λ (x : (j ≡ pass) × (a ≡ u)). off (ap (λ (z : SeatView). z.sits) x.1 ∙ su))
+          (λ (x : (j ≡ pass) × (a ≡ u)). false≢true (ap (λ (z : SeatView). z.sits) x.1 ∙ su))
           (λ (x : (j ≢ pass) × (get_elem? views j ≡ some u)).
           let inside = get_within h.running u.worker u.job ((h.each j u x.1).seat su).job_is in
           omega (arith, inside, same, ap (λ (l : List (Option ℕ)). length l) k.running_is))
@@ -279,7 +277,7 @@ sits_down pass v other u keeps s h at apart there =
             seat =
                 λ c. record { job_is = (g.seat c).job_is; notes_is = (g.seat c).notes_is };
           }) j y e)
-          (record { keeper = λ c. absurd (off c); seat = λ c. absurd (off c) });
+          (record { keeper = λ c. absurd (false≢true c); seat = λ c. absurd (false≢true c) });
       apart = two;
     }
   where
@@ -289,9 +287,9 @@ sits_down pass v other u keeps s h at apart there =
     two : SitApart (set (set s.views pass (beside v u)) other nobody)
     two i j y z ei ej sy sz same =
         ⊎_elim
-        (λ (p : (i ≡ other) × (nobody ≡ y)). absurd (off (ap (λ (t : SeatView). t.sits) p.1 ∙ sy)))
+        (λ (p : (i ≡ other) × (nobody ≡ y)). absurd (false≢true (ap (λ (t : SeatView). t.sits) p.1 ∙ sy)))
         (λ (p : (i ≢ other) × (get_elem? (set s.views pass (beside v u)) i ≡ some y)). ⊎_elim
-        (λ (q : (j ≡ other) × (nobody ≡ z)). absurd (off (ap (λ (t : SeatView). t.sits) q.1 ∙ sz)))
+        (λ (q : (j ≡ other) × (nobody ≡ z)). absurd (false≢true (ap (λ (t : SeatView). t.sits) q.1 ∙ sz)))
         (λ (q : (j ≢ other) × (get_elem? (set s.views pass (beside v u)) j ≡ some z)). ⊎_elim
         (λ (r : (i ≡ pass) × (beside v u ≡ y)). ⊎_elim
         (λ (s : (j ≡ pass) × (beside v u ≡ z)). r.0 ∙ sym s.0)

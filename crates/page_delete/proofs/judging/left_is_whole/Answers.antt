@@ -1,5 +1,5 @@
 use Rattle.std.proofs.Common.{ap, ◌∙◌}
-use Rattle.page_delete.proofs.Imports.{Page, inside, same_page}
+use Rattle.page_delete.proofs.Imports.{Page, same_page, slice_get_within}
 use Rattle.page_delete.proofs.Trying.{same_link}
 use Rattle.page_delete.proofs.judging.left_is_whole.Goals as goal
 
@@ -13,4 +13,4 @@ returns-in-Ok-2-clause-cause g c honest room links one other =
 pub returns-in-Err-clause-cause : goal.returns-in-Err-clause-cause
 returns-in-Err-clause-cause g c honest room links one other =
     let l = links c.in-Some.left c.in-Some.is in
-    c.in-Err.ensures.cause honest room (inside _ c.in-Some.left l.page l.found) one other
+    c.in-Err.ensures.cause honest room (slice_get_within _ c.in-Some.left l.page l.found) one other

@@ -1,4 +1,4 @@
-use Rattle.std.proofs.Common.{◌≡◌, [], ◌∷◌, true, false, sym, subst, ◌∙◌}
+use Rattle.std.proofs.Common.{◌≡◌, [], ◌∷◌, true, false, true≢false, sym, subst, ◌∙◌}
 use Rattle.page_delete.proofs.Imports.{HasRoom, State, IsLater, IsLiveAt, LinksLeft}
 use Rattle.page_delete.proofs.Trying.{read_on, cause_later}
 use Rattle.page_delete.proofs.judging.siblings_allow.Given.{Over}
@@ -27,10 +27,7 @@ returns-then-is_live-clause-answer g c honest =
 pub returns-then-not-is_whole-clause-answer : goal.returns-then-not-is_whole-clause-answer
 returns-then-not-is_whole-clause-answer g c honest right allow =
     let at = (goal.at.returns-then-not-is_whole-clause-answer g c).After-right_is_live in
-    clash (sym ((c.in-Ok.ensures.whole (mid_honest g at honest)).1 allow.left_whole) ∙ c.if-not-is_whole.true)
-  where
-    clash : true ≡ false → ⊥
-    clash e = cc
+    true≢false (sym ((c.in-Ok.ensures.whole (mid_honest g at honest)).1 allow.left_whole) ∙ c.if-not-is_whole.true)
 
 pub returns-in-Err-clause-cause : goal.returns-in-Err-clause-cause
 returns-in-Err-clause-cause g c honest room links one other = c.in-Err.ensures.cause honest room links.left one other

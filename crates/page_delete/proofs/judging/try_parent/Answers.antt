@@ -1,6 +1,5 @@
 use Rattle.std.proofs.Common.{◌≡◌, ℕ, [], ◌∷◌, true, false, sym, ap, subst, ◌∙◌, arith}
-use Rattle.page_delete.proofs.Imports.{Page, State, IsLater, same_page, IsHandingOn, blocks_judged, SiblingsAllow, BlocksAreInUse, LeafDies, IsSpared, IsTried}
-use Rattle.page_delete.proofs.Siblings.{some_is}
+use Rattle.page_delete.proofs.Imports.{Page, State, IsLater, same_page, IsHandingOn, blocks_judged, SiblingsAllow, BlocksAreInUse, LeafDies, IsSpared, IsTried, same_Some}
 use Rattle.page_delete.proofs.Trying.{LeavesCauses, read_on, tried_later, tried_refused, tried_nothing, candidate_later}
 use Rattle.page_delete.proofs.judging.try_parent.Given.{Over}
 use Rattle.page_delete.proofs.judging.try_parent.Goals.{After-read_exclusive}
@@ -54,7 +53,7 @@ returns-in-None-clause-all g c =
     let honest = was_honest g at h in
     let allow = c.requires.right honest in
     let leaf = same_page old.pages c.args.leaf.block die.leaf c.args.leaf die.found (c.requires.leaf.found honest) in
-    let right : die.right ≡ c.args.right = some_is die.right c.args.right (sym die.right_is ∙ ap (λ (p : Page). p.right) leaf ∙ allow.right_is) in
+    let right : die.right ≡ c.args.right = same_Some die.right c.args.right (sym die.right_is ∙ ap (λ (p : Page). p.right) leaf ∙ allow.right_is) in
     let parent = same_page old.pages c.args.parent die.parent_page c.in-Ok.page die.parent_found (c.in-Ok.ensures.page h) in
     c.in-None.ensures.none die.at
     (subst (λ (p : Page). IsHandingOn p c.args.leaf.block c.args.right die.at) parent (subst (λ (r : ℕ). IsHandingOn die.parent_page c.args.leaf.block r die.at) right die.hands_on)))

@@ -2,6 +2,7 @@ use Rattle.std.proofs.Common.{◌≡◌, ◌&&◌, ℕ, Bool, true, false, not, 
 use Rattle.std.proofs.lemmas.Bool.Decides.{Decides-eqb}
 use Rattle.index_model.specs.Row.{Row}
 use Rattle.tests_reference.proofs.insert.insert_may_fail.Goals as goal
+use Rattle.tests_reference.proofs.Imports.{false≢true}
 
 both : (x y : Bool) → not (x && y) ≡ false → (x ≡ true) × (y ≡ true)
 both true true h = (refl, refl)
@@ -18,7 +19,4 @@ one_row a b h =
 pub returns-else-ne : goal.returns-else-ne
 returns-else-ne c =
     let same = one_row c.in-KeyExists.row c.args.entry.now.row (sym c.ne.ensures ∙ c.if-ne.false) in
-    (λ yes. absurd (no (sym c.if-ne.false ∙ yes)), λ right. absurd ((right.1 c.in-KeyExists.row c.in-KeyExists.is).0 same))
-  where
-    no : false ≡ true → ⊥
-    no h = cc
+    (λ yes. absurd (false≢true (sym c.if-ne.false ∙ yes)), λ right. absurd ((right.1 c.in-KeyExists.row c.in-KeyExists.is).0 same))

@@ -1,4 +1,5 @@
-use Rattle.std.proofs.Common.{◌≡◌, ◌⊎◌, ◌+◌, ◌<◌, ◌++◌, ◌∷◌, [], ℕ, List, length, Option, Some, None, slice_get, IfSome, sym, ap, ◌∙◌, subst, ⊎_elim, arith, length-append, append_assoc, append-nil, refl}
+use Rattle.std.proofs.Common.{◌≡◌, ◌⊎◌, ◌+◌, ◌<◌, ◌++◌, ◌∷◌, [], ℕ, List, length, Option, Some, None, slice_get, IfSome, sym, ap, ◌∙◌, subst, ⊎_elim, arith, length-append, append_assoc, append-nil}
+use Rattle.std.proofs.lemmas.List.{nil_from_length}
 use Rattle.worker_seats.specs.declared.seating.SeatView.{SeatView}
 use Rattle.worker_seats.specs.Seats.{notes_by, known_by}
 use Rattle.worker_seats.proofs.Rows.{some_middle, some_snoc}
@@ -62,17 +63,13 @@ loop-seat-preserved g c =
       (λ k. some_snoc (λ n s. (known_by s.pass).notes ≡ notes_by n log) yielded s i.9 notes k),
     )
 
-nothing : {A : Type 0} (l : List A) → length l ≡ 0 → l ≡ []
-nothing [] e = refl
-nothing (x ∷ l) e = absurd (omega (arith, e))
-
 pub returns-clause-notes : goal.returns-clause-notes
 returns-clause-notes g c k =
     let i = c.loop-seat.invariant in
     let yielded = c.loop-seat.yielded in
     let log = (known_by c.args.desk.now.keeper).log in
     let rest = c.loop-seat.seat-iterator.rest in
-    let none : rest.items ≡ [] = nothing rest.items (sym rest.ok.0 ∙ c.in-None.ensures.steps.0) in
+    let none : rest.items ≡ [] = nil_from_length rest.items (sym rest.ok.0 ∙ c.in-None.ensures.steps.0) in
     let all : yielded ≡ c.args.seats.items = sym (append-nil yielded) ∙ ap (λ l. yielded ++ l) (sym none) ∙ i.8 in
     subst (λ l. IfSome (slice_get l k) (λ s. (known_by s.pass).notes ≡ notes_by k log)) all (i.9 k)
 
@@ -83,7 +80,7 @@ returns-clause-all g c =
     let log = (known_by c.args.desk.now.keeper).log in
     let rest = c.loop-seat.seat-iterator.rest in
     let ended : rest.len ≡ 0 = c.in-None.ensures.steps.0 in
-    let none : rest.items ≡ [] = nothing rest.items (sym rest.ok.0 ∙ ended) in
+    let none : rest.items ≡ [] = nil_from_length rest.items (sym rest.ok.0 ∙ ended) in
     let all : yielded ≡ c.args.seats.items = sym (append-nil yielded) ∙ ap (λ l. yielded ++ l) (sym none) ∙ i.8 in
     let popped = (view c.args.pass.now).popped in
     let own : (h : ℕ → ℕ) → weigh h popped ≡ sum_below (length yielded) (λ w. weigh h (jobs_in (notes_by w log))) =
@@ -98,7 +95,7 @@ returns-clause-once g c =
     let log = (known_by c.args.desk.now.keeper).log in
     let rest = c.loop-seat.seat-iterator.rest in
     let ended : rest.len ≡ 0 = c.in-None.ensures.steps.0 in
-    let none : rest.items ≡ [] = nothing rest.items (sym rest.ok.0 ∙ ended) in
+    let none : rest.items ≡ [] = nil_from_length rest.items (sym rest.ok.0 ∙ ended) in
     let all : yielded ≡ c.args.seats.items = sym (append-nil yielded) ∙ ap (λ l. yielded ++ l) (sym none) ∙ i.8 in
     let popped = (view c.args.pass.now).popped in
     let own : (h : ℕ → ℕ) → weigh h popped ≡ sum_below (length yielded) (λ w. weigh h (jobs_in (notes_by w log))) =

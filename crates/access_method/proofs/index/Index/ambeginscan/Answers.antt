@@ -2,6 +2,7 @@ use Rattle.std.proofs.Common.{rules, false, [], ◌∷◌, refl, sym, ap, ◌∙
 use Rattle.access_method.proofs.Imports.{ToScan, is_at_end, one_vacuums, slot_vacuums}
 use Rattle.access_method.specs.Rows.{is_row_in}
 use Rattle.access_method.proofs.Seats.{agree_taken, may_begin}
+use Rattle.access_method.proofs.Results.{run_fits}
 use Rattle.access_method.proofs.index.Index.ambeginscan.Goals as goal
 
 pub invariant_of-self-2 : goal.invariant_of-self-2
@@ -22,3 +23,12 @@ returns-in_err-open g c =
     absurd (may_begin g.S.PageStore self.store self.store self.calls.slots.items c.in-Some.at c.in_err-open.field-0.0 (is_at_end self.given)
     (sym c.is_at_end.ensures.value ∙ c.if-is_at_end.false) refl refl (search rules) (self.agree.free c.in-Some.at c.in-Some.ensures.free)
     (one_vacuums self.calls.slots.items) (is_row_in self.rows ∷ []) (ToScan c.args.range) refl refl c.in_err-open.ensures.cause)
+
+pub returns-then-is_at_end-clause-fits : goal.returns-then-is_at_end-clause-fits
+returns-then-is_at_end-clause-fits g c honest start history calls fits = (history, calls, fits)
+
+pub returns-in_default-clause-fits : goal.returns-in_default-clause-fits
+returns-in_default-clause-fits g c honest start history calls fits = (history, calls, fits)
+
+pub returns-clause-fits : goal.returns-clause-fits
+returns-clause-fits g c = run_fits (rw c.in_ok-open.was at c.open.ensures.goes)

@@ -112,3 +112,18 @@ returns-clause-finishes g c honest start history calls fits un =
     (goes g after honest start history calls (fits_then g after start history calls fits)) in
     finishes g.S.PageStore c.args.self.now c.bulk_delete.new.store c.bulk_delete.result c.args.self.now.agree.inserts un same
     (caused g ((goal.at.returns-clause-finishes g c).After-bulk_delete) (search rules) honest start history calls fits)
+
+pub returns-clause-fits : goal.returns-clause-fits
+returns-clause-fits g c honest start history calls fits =
+    let after = (goal.at.returns-clause-fits g c).After-bulk_delete in
+    let own = is_row_in c.args.self.now.rows in
+    let dead = g.T.DeadRows.is_in c.args.dead.now in
+    let now = snapshot_of (slots_within c.args.self.now) history calls in
+    let r = goes g after honest start history calls (fits_then g after start history calls fits) in
+    let behind = snapshot_of (here_with c.bulk_delete.new.store c.bulk_delete.new.calls.slots.items (own ∷ dead ∷ [])) r.then_history r.then_calls in (
+      r.then_history,
+      r.then_calls,
+      fits_as g.S.PageStore start behind (own ∷ []) (λ session set op at within. sym (finds_own own dead set (within_sets g.S.PageStore start now fits session set op
+          (runs_before c.args.self.now.calls.slots.items c.bulk_delete.new.calls.slots.items c.bulk_delete.ensures.others.others (c.bulk_delete.ensures.over c.args.self.now.agree.inserts) session set op at))))
+          r.ran.fits,
+    )

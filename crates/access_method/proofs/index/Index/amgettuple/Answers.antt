@@ -1,7 +1,7 @@
 use Rattle.access_method.proofs.Refusals.{give_cause, run_unhindered, frames_stay}
-use Rattle.std.proofs.Common.{◌∷◌, true, false, Ok, Some, sym, ◌∙◌, rules}
-use Rattle.access_method.proofs.Imports.{[], snapshot_of, here_with, runs_has_call, true_false, slots_within}
-use Rattle.access_method.proofs.Results.{gives_right}
+use Rattle.std.proofs.Common.{◌∷◌, true, false, true≢false, Ok, Some, sym, ◌∙◌, rules}
+use Rattle.access_method.proofs.Imports.{[], snapshot_of, here_with, runs_has_call, slots_within}
+use Rattle.access_method.proofs.Results.{gives_right, run_fits}
 use Rattle.access_method.proofs.Seats.{agree_over, not_refused}
 use Rattle.access_method.specs.Rows.{is_row_in}
 use Rattle.access_method.proofs.index.Index.amgettuple.Goals as goal
@@ -53,7 +53,7 @@ returns-then-seat-clause-tokens g c is_open = absurd (not_refused c.find.result 
 pub returns-then-not-is_running-clause-answers : goal.returns-then-not-is_running-clause-answers
 returns-then-not-is_running-clause-answers g c honest start history calls fits number call range is ask =
     let session = c.args.token.session in
-    absurd (true_false (sym (runs_has_call g.S.PageStore start (snapshot_of (slots_within c.args.self.now) history calls) fits session number call is)
+    absurd (true≢false (sym (runs_has_call g.S.PageStore start (snapshot_of (slots_within c.args.self.now) history calls) fits session number call is)
     ∙ sym c.is_running.ensures.value ∙ c.if-not-is_running.true))
 
 pub returns-in-Ok-clause-runs : goal.returns-in-Ok-clause-runs
@@ -81,3 +81,18 @@ returns-in-Err-clause-gives g c seat honest start history calls fits number call
     (here_with c.give.new.store c.give.new.calls.slots.items (is_row_in c.args.self.now.rows ∷ [])) start history calls (c.in-Err.ensures.goes honest start history calls fits) in
     absurd (run_unhindered g.S.PageStore c.args.token.session c.args.self.now c.give.new.store un same c.in-Err.fault
     (give_cause g.S.PageStore c.args.token.session c.args.self.now c.give.new.store c.in-Err.fault (c.in-Err.ensures.cause honest start history calls fits number call range is ask)))
+
+pub returns-in_default-clause-fits : goal.returns-in_default-clause-fits
+returns-in_default-clause-fits g c honest start history calls fits = (history, calls, fits)
+
+pub returns-then-seat-clause-fits : goal.returns-then-seat-clause-fits
+returns-then-seat-clause-fits g c honest start history calls fits = (history, calls, fits)
+
+pub returns-then-not-is_running-clause-fits : goal.returns-then-not-is_running-clause-fits
+returns-then-not-is_running-clause-fits g c honest start history calls fits = (history, calls, fits)
+
+pub returns-in-Ok-clause-fits : goal.returns-in-Ok-clause-fits
+returns-in-Ok-clause-fits g c = run_fits c.in-Ok.ensures.goes
+
+pub returns-in-Err-clause-fits : goal.returns-in-Err-clause-fits
+returns-in-Err-clause-fits g c = run_fits c.in-Err.ensures.goes

@@ -3,6 +3,7 @@ use Rattle.access_method.proofs.Imports.{[], snapshot_of, here_with, slots_withi
 use Rattle.access_method.proofs.Cleanups.{cleaned_up}
 use Rattle.access_method.proofs.Refusals.{all_alone, cleaned_cause, finishes, frames_stay}
 use Rattle.access_method.specs.Rows.{is_row_in}
+use Rattle.access_method.proofs.Results.{run_fits}
 use Rattle.access_method.proofs.index.Index.amvacuumcleanup.Goals as goal
 
 pub returns-clause-cleans : goal.returns-clause-cleans
@@ -33,3 +34,6 @@ returns-clause-finishes g c honest start history calls fits un =
     finishes g.S.PageStore index c.clean_up.new.store c.clean_up.result index.agree.inserts un same
     (cleaned_cause g.S.PageStore index c.clean_up.new.store index.agree.inserts (search rules)
     c.clean_up.result (c.clean_up.ensures.cause honest start history calls fits))
+
+pub returns-clause-fits : goal.returns-clause-fits
+returns-clause-fits g c = run_fits c.clean_up.ensures.goes

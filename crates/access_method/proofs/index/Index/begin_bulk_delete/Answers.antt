@@ -43,3 +43,14 @@ returns-clause-opened g c =
           follows_begun (rw c.in_ok-begin.was at c.begin.ensures.goes) honest start history calls
           (fits_with g.S.PageStore start now (dead ∷ []) (none_runs self.calls.slots.items self.seats self.agree c.in_ok-at.ensures.none) fits) what may);
     }
+
+pub returns-in_err-at-clause-fits : goal.returns-in_err-at-clause-fits
+returns-in_err-at-clause-fits g c honest start history calls fits = (history, calls, fits)
+
+pub returns-clause-fits : goal.returns-clause-fits
+returns-clause-fits g c honest start history calls fits =
+    let self = c.args.self.now in
+    let now = snapshot_of (slots_within self) history calls in
+    let r = begins_told (rw c.in_ok-begin.was at c.begin.ensures.goes) honest start history calls
+    (fits_with g.S.PageStore start now (is_row_in c.args.rows ∷ []) (none_runs self.calls.slots.items self.seats self.agree c.in_ok-at.ensures.none) fits) in
+    (r.then_history, r.then_calls, r.ran.fits)

@@ -4,6 +4,7 @@ use Rattle.access_method.proofs.Partwise.{begins_told, calm_open, follows_begun}
 use Rattle.access_method.proofs.Seats.{agree_begun, may_begin}
 use Rattle.access_method.specs.Rows.{is_row_in}
 use Rattle.whole_calls.proofs.Made.{made_told}
+use Rattle.access_method.proofs.Results.{run_fits}
 use Rattle.access_method.proofs.index.Index.begin_cleanup.Goals as goal
 
 -- a free seat's session has no call, and none vacuums, so that nothing hinders a cleanup there
@@ -31,3 +32,9 @@ returns-clause-opened g c = record {
   made = made_told (rw c.in_ok-begin.was at (c.begin.ensures.made 5)) (λ xs came. inl came);
   follows = λ what may honest start history calls fits. follows_begun (rw c.in_ok-begin.was at c.begin.ensures.goes) honest start history calls fits what may;
 }
+
+pub returns-in_err-at-clause-fits : goal.returns-in_err-at-clause-fits
+returns-in_err-at-clause-fits g c honest start history calls fits = (history, calls, fits)
+
+pub returns-clause-fits : goal.returns-clause-fits
+returns-clause-fits g c = run_fits (rw c.in_ok-begin.was at c.begin.ensures.goes)

@@ -1,7 +1,7 @@
 use Rattle.std.proofs.Common.{[], ◌∷◌, refl, sym}
 use Rattle.access_method.specs.Rows.{is_row_in}
 use Rattle.access_method.proofs.Imports.{Checkpoints, Checkpoint, makes_runs}
-use Rattle.access_method.proofs.Results.{number_told, durable_told, cause_told, goes_told_kept, room_told}
+use Rattle.access_method.proofs.Results.{number_told, durable_told, cause_told, goes_told_kept, room_told, run_fits}
 use Rattle.access_method.proofs.index.Index.checkpoint.Goals as goal
 
 pub returns-clause-runs : goal.returns-clause-runs
@@ -26,3 +26,8 @@ returns-clause-room g c = room_told _ c.checkpoint.result _ c.count.ensures c.ch
 
 pub returns-clause-alive : goal.returns-clause-alive
 returns-clause-alive g c = room_told _ c.checkpoint.result _ c.count.ensures c.checkpoint.ensures.answers c.checkpoint.ensures.alive
+
+pub returns-clause-fits : goal.returns-clause-fits
+returns-clause-fits g c =
+    run_fits (goes_told_kept g.S.PageStore g.met.S.PageStore.laws Checkpoints Checkpoint c.checkpoint.result _ _ _ c.count.ensures refl tt c.checkpoint.ensures.answers
+    (makes_runs g.S.PageStore g.met.S.PageStore.laws _ _ _ _ (c.checkpoint.ensures.makes c.args.self.now.calls.slots.items (is_row_in c.args.self.now.rows ∷ []))))

@@ -37,3 +37,14 @@ returns-clause-ended g c session seat =
         made = c.give_up.ensures.made 5;
       }),
     )
+
+pub returns-in_default-clause-fits : goal.returns-in_default-clause-fits
+returns-in_default-clause-fits g c honest start history calls fits = (history, calls, fits)
+
+pub returns-clause-fits : goal.returns-clause-fits
+returns-clause-fits g c honest start history calls fits =
+    let self = c.args.self.now in
+    let r = c.give_up.ensures.goes honest start history calls fits in
+    let behind = snapshot_of (here_with c.give_up.new.store c.give_up.new.calls.slots.items (is_row_in self.rows ∷ [])) r.then_history r.then_calls in
+    let none = none_runs_on self.calls.slots.items c.give_up.new.calls.slots.items self.seats c.in-Some.at self.agree c.give_up.ensures.others.others c.in-Some.ensures.seat c.give_up.ensures.over in
+    (r.then_history, r.then_calls, fits_with g.S.PageStore start behind (is_row_in c.new.result ∷ []) none r.ran.fits)

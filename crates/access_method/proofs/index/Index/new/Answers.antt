@@ -1,6 +1,6 @@
-use Rattle.std.proofs.Common.{Option, List, [], ◌∷◌, length, refl, sym, ap, ◌∙◌}
+use Rattle.std.proofs.Common.{Option, List, [], ◌∷◌, length, refl, sym, ap, ◌∙◌, true≢false}
 use Rattle.access_method.specs.Rows.{is_row_in}
-use Rattle.access_method.proofs.Imports.{slot_vacuums, true_false, Op, empty_at, unused_fits, unused_keeps}
+use Rattle.access_method.proofs.Imports.{slot_vacuums, Op, empty_at, unused_fits, unused_keeps}
 use Rattle.access_method.proofs.Seats.{closed_at, none_seated}
 use Rattle.access_method.proofs.index.Index.new.Goals as goal
 
@@ -12,7 +12,7 @@ invariant_of-result g c =
       agree = record {
         inserts = empty_at 64 63 slots c.in-Ok.ensures.slots;
         free = λ session h. empty_at 64 session slots c.in-Ok.ensures.slots;
-        vacuums = λ session h. absurd (true_false (sym h ∙ ap slot_vacuums (empty_at 64 session slots c.in-Ok.ensures.slots)));
+        vacuums = λ session h. absurd (true≢false (sym h ∙ ap slot_vacuums (empty_at 64 session slots c.in-Ok.ensures.slots)));
         sits = λ session h busy. absurd (busy (empty_at 64 session slots c.in-Ok.ensures.slots));
         one = λ session other h k. absurd (none_seated 63 session _ refl h);
       };

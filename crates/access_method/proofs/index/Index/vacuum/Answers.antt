@@ -1,5 +1,5 @@
-use Rattle.std.proofs.Common.{◌∷◌, [], map, ◌≡◌, ◌≢◌, ℕ, None, refl, sym, subst, ◌∙◌, rules}
-use Rattle.access_method.proofs.Imports.{Call, Action, Entry, Bool, List, snapshot_of, slots_within, here_with, slot_of, runs_has_call, true_false}
+use Rattle.std.proofs.Common.{◌∷◌, [], map, ◌≡◌, ◌≢◌, ℕ, None, refl, sym, subst, ◌∙◌, rules, true≢false}
+use Rattle.access_method.proofs.Imports.{Call, Action, Entry, Bool, List, snapshot_of, slots_within, here_with, slot_of, runs_has_call}
 use Rattle.access_method.proofs.Partwise.{busy_of, cause_at, counts_on, lasts_at, part_caused, part_counts, part_effects, part_loses, part_made, part_may, part_runs, part_stays, runs_some}
 use Rattle.access_method.specs.Parts.{part_answer}
 use Rattle.access_method.specs.Rows.{is_row_in}
@@ -12,7 +12,7 @@ returns-then-not-is_running-clause-cause g c session seat honest start history c
     let self = c.args.self.now in
     let same : session ≡ c.in-Some.at = self.agree.one c.in-Some.at session c.in-Some.ensures.seat seat in
     let here : IsRunningCall calls c.in-Some.at number call = subst (λ (n : ℕ). IsRunningCall calls n number call) same is in
-    absurd (true_false (sym (runs_has_call g.S.PageStore start (snapshot_of (slots_within self) history calls) fits c.in-Some.at number call here)
+    absurd (true≢false (sym (runs_has_call g.S.PageStore start (snapshot_of (slots_within self) history calls) fits c.in-Some.at number call here)
     ∙ sym c.is_running.ensures.value ∙ c.if-not-is_running.true))
 
 pub returns-clause-runs : goal.returns-clause-runs
@@ -87,3 +87,12 @@ returns-clause-cause g c session seat honest start history calls fits number cal
     (part_caused g.S.PageStore g.met.S.PageStore.laws c.in-Some.at start self (here_with c.take_steps.new.store c.take_steps.new.calls.slots.items (is_row_in self.rows ∷ [])) history r.then_history
     calls r.then_calls fits c.take_steps.result r.tells vacuums c.told.result
     (c.told.ensures (part_may (is_row_in self.rows ∷ []) (slot_of self.calls.slots.items c.in-Some.at) vacuums c.take_steps.result c.take_steps.ensures.kind))) number call is
+
+pub returns-in_default-clause-fits : goal.returns-in_default-clause-fits
+returns-in_default-clause-fits g c honest start history calls fits = (history, calls, fits)
+
+pub returns-then-not-is_running-clause-fits : goal.returns-then-not-is_running-clause-fits
+returns-then-not-is_running-clause-fits g c honest start history calls fits = (history, calls, fits)
+
+pub returns-clause-fits : goal.returns-clause-fits
+returns-clause-fits g c honest start history calls fits = (let r = c.take_steps.ensures.goes honest start history calls fits in (r.then_history, r.then_calls, r.ran.fits))

@@ -1,5 +1,5 @@
 use Rattle.std.proofs.Common.{arith, ◌≡◌, ◌<◌, ◌≤◌, Bool, true, false, ℕ, map, length, ap, sym, subst, ◌∙◌, refl}
-use Rattle.split_finish.proofs.Imports.{HasCause, is_held_by_another, Exclusive, IsBlock, count_of, Page, IsFresh, State, Backing, IsLater, after_act, AreActable, inside, act_cause_of, fresh_is}
+use Rattle.split_finish.proofs.Imports.{HasCause, is_held_by_another, Exclusive, IsBlock, count_of, Page, IsFresh, State, Backing, IsLater, after_act, AreActable, act_cause_of, fresh_is, slice_get_within}
 use Rattle.split_finish.proofs.Imports.{fresh_block, causes_of_acting, causes_of_working, finish_blocks, frames_of, takes_block_of, causes_of_finishing, halves_and, splits_root_of, FinishAt, Link}
 use Rattle.split_finish.proofs.Needs.{full_link, parted_are}
 use Rattle.split_finish.proofs.Parting.{PartsParent, parts, parts_may, beside_parent, split_as_read}
@@ -92,7 +92,7 @@ returns-in-Err-act_on_halves-clause-all g c =
       right_found = c.requires.beside_found;
       clears = record { only = c.clear_split.ensures.only; after_is = c.clear_split.ensures.node; block_is = ap (λ (p : Page). p.block) c.clear_split.ensures.only };
     }) in
-    let some_pages : 0 < length st.pages = (let u = inside st.pages c.requires.meets.position.block c.args.parent (c.requires.meets.read_parent.found (later.honest honest)) in omega arith) in
+    let some_pages : 0 < length st.pages = (let u = slice_get_within st.pages c.requires.meets.position.block c.args.parent (c.requires.meets.read_parent.found (later.honest honest)) in omega arith) in
     let may : AreActable st.limits (length st.pages) (halves_and left half c.args.right clear) =
     parts_may st op.session op c.requires.meets.position c.args.page c.args.parent left half clear c.args.right c.args.new order fits c.requires.meets.at here (g.met.S.PageStore.laws.few c.args.store.now)
     c.split_links-half.ensures.left_page c.split_links-half.ensures.right_page c.split_links-half.ensures.left_internal
