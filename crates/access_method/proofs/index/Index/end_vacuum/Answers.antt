@@ -47,4 +47,4 @@ returns-clause-fits g c honest start history calls fits =
     let r = c.give_up.ensures.goes honest start history calls fits in
     let behind = snapshot_of (here_with c.give_up.new.store c.give_up.new.calls.slots.items (is_row_in self.rows ∷ [])) r.then_history r.then_calls in
     let none = none_runs_on self.calls.slots.items c.give_up.new.calls.slots.items self.seats c.in-Some.at self.agree c.give_up.ensures.others.others c.in-Some.ensures.seat c.give_up.ensures.over in
-    (r.then_history, r.then_calls, fits_with g.S.PageStore start behind (is_row_in c.new.result ∷ []) none r.ran.fits)
+    (r.then_history, r.then_calls, fits_with g.S.PageStore start behind (is_row_in c.replace.new.dest ∷ []) none r.ran.fits)
