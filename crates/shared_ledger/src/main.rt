@@ -1,14 +1,15 @@
-//! The ledger for many requests at once: `shared_ledger PATH SESSIONS`. Threads share the index in a file. Each draws a line
-//! of standard input, makes its call, and prints the answer behind the line's number, so answers come as calls end.
+//! The ledger for many requests at once: `shared_ledger PATH SESSIONS`. Threads share the index in a file. Each
+//! draws a line of standard input, makes its call, and prints the answer behind the line's number, so answers
+//! come as calls end.
 #![tactic(auto)]
 
-mod desk;
+mod line_server;
 mod opening;
 mod requests;
 
 ghost use Rattle.std.specs.Prelude.{◌≡◌};
 
-use crate::desk::Desk;
+use crate::line_server::LineServer;
 use crate::opening::{Shared, closed, opened};
 use crate::requests::Pause;
 use index_model::Fault;
@@ -32,17 +33,17 @@ standard input, those of `ledger`, and answer each as it is done, behind the lin
 
 // Puts the rows of a line that deletes into the world's set. False if all is done.
 fn goes_on<R: Wait + Clock, I: BufRead, O: Write>(
-    desk: &mut Desk<'_, R, I, O>,
+    server: &mut LineServer<'_, R, I, O>,
     world: &mut Shared,
 ) -> Result<bool, Fault> {
-    match desk.resume() {
+    match server.resume() {
         Pause::None | Pause::Ended => Ok(false),
         Pause::Failed(error) => Err(fault_of(&error)),
         Pause::Delete(line, dead) => {
             if let Err(not_put) = world.put_set(0, dead) {
                 return Err(not_put.fault);
             }
-            desk.delete(line);
+            server.delete(line);
             Ok(true)
         }
     }
@@ -54,14 +55,14 @@ fn serve_all<R: Wait + Clock + Threads + Sync, I: BufRead + Send + Drop, O: Writ
     alloc: Global,
     mut world: Shared,
     sessions: u32,
-    mut desk: Desk<'_, R, I, O>,
+    mut server: LineServer<'_, R, I, O>,
 ) -> (Shared, Result<(), Fault>) {
     for _ in rt.forever() {
-        match serve(rt, alloc, world, sessions, &desk) {
+        match serve(rt, alloc, world, sessions, &server) {
             Ok(served) => world = served.world,
             Err(not_served) => return (not_served.world, Err(not_served.fault)),
         }
-        match goes_on(&mut desk, &mut world) {
+        match goes_on(&mut server, &mut world) {
             Ok(true) => {}
             Ok(false) => return (world, Ok(())),
             Err(fault) => return (world, Err(fault)),
@@ -77,8 +78,8 @@ fn run<
     O: Write + Send + Drop,
 >(rt: &R, alloc: Global, path: &str, sessions: u32, input: I, out: O) -> Result<(), Fault> {
     let world = opened(rt, alloc, path, sessions)?;
-    let desk = Desk::new(rt, alloc, input, out);
-    let (world, served) = serve_all(rt, alloc, world, sessions, desk);
+    let server = LineServer::new(rt, alloc, input, out);
+    let (world, served) = serve_all(rt, alloc, world, sessions, server);
     let written = closed(world);
     served?;
     written

@@ -20,7 +20,7 @@ const BATCH: usize = 64;
 
 /// The input and the output that threads share. Each answer begins with the number of its line.
 #[derive(Drop)]
-pub struct Desk<'a, R: Wait, I, O> {
+pub struct LineServer<'a, R: Wait, I, O> {
     rt: &'a R,
     alloc: Global,
     requests: Mutex<Requests<I>>,
@@ -29,10 +29,10 @@ pub struct Desk<'a, R: Wait, I, O> {
     deletes: Option<u64>,
 }
 
-impl<'a, R: Wait + Clock, I: BufRead, O: Write> Desk<'a, R, I, O> {
+impl<'a, R: Wait + Clock, I: BufRead, O: Write> LineServer<'a, R, I, O> {
     /// Lines of this input, with their answers to this output.
-    pub fn new(rt: &'a R, alloc: Global, input: I, out: O) -> Desk<'a, R, I, O> {
-        Desk {
+    pub fn new(rt: &'a R, alloc: Global, input: I, out: O) -> LineServer<'a, R, I, O> {
+        LineServer {
             rt,
             alloc,
             requests: Mutex::new(Requests::new(input)),
@@ -207,7 +207,7 @@ fn print_entries<O: Write>(out: &mut O, number: u64, entries: &[Entry]) -> io::R
 }
 
 impl<'a, S: PageStore, T: DeadRows + Drop, R: Wait + Clock, I: BufRead, O: Write> Client<S, T>
-    for Desk<'a, R, I, O> {
+    for LineServer<'a, R, I, O> {
     type Out = ();
 
     ghost learnt = { λ out calls. Unit {0} };
