@@ -1,6 +1,6 @@
-//! The ledger for many requests at once: `shared_ledger PATH SESSIONS`. Threads share the index in a file. Each
-//! draws a line of standard input, makes its call, and prints the answer behind the line's number, so answers
-//! come as calls end.
+//! The ledger for many requests at once: `shared_ledger PATH SESSIONS`. Threads share the index in a file.
+//! Each draws a line of standard input, makes its call, and prints the answer behind the line's number, so
+//! answers come as calls end.
 #![tactic(auto)]
 
 mod line_server;
