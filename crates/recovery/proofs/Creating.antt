@@ -3,7 +3,7 @@ use Rattle.std.proofs.Common.{◌≡◌, ◌⊎◌, inl, inr, ⊎_elim, ℕ, ◌
 use Rattle.std.proofs.lemmas.Bool.Decides.{nat_tests}
 use Rattle.page_codec.specs.Spelling.{page_bytes}
 use Rattle.page_codec.specs.Places.{superblock, place}
-use Rattle.recovery.proofs.Imports.{length-replicate, get_or-take, OnOk, ◌||◌, cases_lt, DiskMoment, Trace, Writes, Syncs, next, wrote, synced, is_in, AtEachMoment, Has, OnDisk, ChangesOnly}
+use Rattle.recovery.proofs.Imports.{length-replicate, get_or-take, OnOk, ◌||◌, DiskMoment, Trace, Writes, Syncs, next, wrote, synced, is_in, AtEachMoment, Has, OnDisk, ChangesOnly}
 use Rattle.recovery.proofs.Imports.{steps, goes_on, goes_weaker, goes_now, writes_goes, syncs_goes, only_wider, only_more, same_only, has_kept, kept, on_image, wrote_only, wrote_has, synced_only}
 use Rattle.recovery.proofs.Imports.{synced_on, Format, Page, IsFirstMeta, IsFirstLeaf, AreZero, HasPages, HasBody, WritesFront, CrashesToNoMagic, IsMaking, IsEmptyIndex}
 
@@ -24,13 +24,6 @@ zeros_stay limits from to a k old new only apart zero = λ block low high.
     has_kept a k (place limits block) (replicate 4096 0) old new only
     (apart_each limits from to block a k low high apart)
     (zero block low high)
-
--- one block of zeros more
-pub zeros_more : (limits : Format) (block : ℕ) (old new : DiskMoment) → AreZero limits 2 block old.seen
-    → Has (place limits block) (replicate 4096 0) new.seen → ChangesOnly (place limits block) 4096 old new → AreZero limits 2 (block + 1) new.seen
-zeros_more limits block old new zero has only =
-    let stay = zeros_stay limits 2 block (place limits block) 4096 old new only (inl (omega arith)) zero in
-    λ b low high. ⊎_elim (λ lt. stay b low lt) (λ ge. let e : block ≡ b = omega arith in subst (λ (n : ℕ). Has (place limits n) (replicate 4096 0) new.seen) e has) (cases_lt b block)
 
 -- the pages stand, once each was written
 pub pages_made : (limits : Format) (meta leaf : Page) (a b c : DiskMoment) → IsFirstMeta meta → IsFirstLeaf leaf → length (page_bytes meta) ≡ 4096 → AreZero limits 2 limits.pages a.seen

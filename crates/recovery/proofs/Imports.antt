@@ -36,7 +36,7 @@ pub use Rattle.recovery.specs.Index.{HasIndex}
 pub use Rattle.recovery.specs.Opening.{AreFrames, AreSamePages, HasGroups, IsFound, IsFront, IsFrontFault, IsFrontRefusal, IsNoMemoryOrIo, IsRefusal, IsRestoreRefusal, IsRestored, IsSynced}
 pub use Rattle.recovery.specs.Opening.{StandsOnDevice}
 pub use Rattle.recovery.specs.Outside.{ChangesAfterFront, ChangesItsBytes, ChangesOneIndex, SameLogBytes}
-pub use Rattle.recovery.specs.Reading.{AreBytesOf, AreInUse, HasReadPages, IsAllRead, IsDamagedAt, IsDamagedBlock, IsEnd, StandFirst, block_bytes, greatest_cycle}
+pub use Rattle.recovery.specs.Reading.{AreBlocks, AreBytesOf, AreInUse, HasReadPages, IsAllRead, IsDamagedAt, IsDamagedBlock, IsEnd, StandFirst, block_bytes, greatest_cycle}
 pub use Rattle.recovery.specs.Superblock.{IsLayout, IsNoSuperblock, is_unique, layout_of, sizes_in, spelled_number}
 pub use Rattle.recovery.specs.declared.opening.Parts.{Parts}
 pub use Rattle.recovery.specs.declared.reading.Found.{Found}

@@ -2,6 +2,7 @@ pub mod Imports
 pub mod Spelling
 pub mod Creating
 pub mod Blocks
+pub mod Batches
 pub mod Named
 pub mod Restoring
 pub mod Answering

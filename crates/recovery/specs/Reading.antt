@@ -15,6 +15,10 @@ use Rattle.recovery.specs.declared.reading.Found.{Found}
 abbrev pub block_bytes : Format → ℕ → List ℕ → List ℕ
 block_bytes limits block file = slice_range file (place limits block) (place limits block + 4096)
 
+-- these are the bytes of the blocks from there up to there
+abbrev pub AreBlocks : Format → ℕ → ℕ → List ℕ → List ℕ → Type 0
+AreBlocks limits from end bytes file = bytes ≡ slice_range file (place limits from) (place limits end)
+
 -- the bytes are those of the page, which the format admits; or zeros, if there is none
 abbrev pub AreBytesOf : Option Page → List ℕ → Type 0
 AreBytesOf None bytes = bytes ≡ replicate 4096 0

@@ -66,7 +66,10 @@ pub(crate) fn place<D: Device>(device: &mut D, at: u64, bytes: &[u8]) -> Result<
     device.write_at(at, bytes)
 }
 
-/// Writes zeros over each block from the third on.
+/// Zeros are written over so many blocks at once.
+const BATCH: u32 = 16;
+
+/// Writes zeros over each block from the third on, 16 blocks at a time.
 fn place_zeros<D: Device>(device: &mut D, limits: &Format) -> Result<(), Fault>
     requires allowed { AreLimits limits.now }
     requires inside { needed_length limits.now ≤ length (D.trace device.old).now.seen }
@@ -77,9 +80,13 @@ fn place_zeros<D: Device>(device: &mut D, limits: &Format) -> Result<(), Fault>
         (D.trace device.old) (D.trace device.new) }
     ensures calls { OnlyWrites D.Device result device.old device.new }
 {
-    let zeros = [0; 4096];
-    for block in 2..limits.pages {
-        place(device, page_place(limits, block), &zeros)?;
+    let zeros = [0; 65_536];
+    let mut block = 2;
+    while block < limits.pages {
+        let end = limits.pages.min(block + BATCH);
+        let len = 4096 * (end - block) as usize;
+        place(device, page_place(limits, block), &zeros[..len])?;
+        block = end;
     }
     Ok(())
 }

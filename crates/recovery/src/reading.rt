@@ -1,11 +1,11 @@
 //! The pages of the blocks in use are read.
 
-ghost use Rattle.std.specs.Prelude.{◌≡◌, ◌⊎◌, ◌+◌, ◌≤◌, ◌<◌, ℕ, suc, IsTrue, [], length, replicate, IfOk, IfErr, OnOk};
+ghost use Rattle.std.specs.Prelude.{◌≡◌, ◌⊎◌, ◌+◌, ◌-◌, ◌*◌, ◌≤◌, ◌<◌, ℕ, suc, Bool, IsTrue, List, [], length, replicate, slice_range, IfOk, IfErr, OnOk};
 ghost use Rattle.index_model.specs.Limits.{AreLimits};
 ghost use Rattle.page_codec.specs.Places.{needed_length};
 ghost use Rattle.page_store.specs.Rooms.{limits_of_room, frames_of_room, pages_of_room, counts_of_room};
 ghost use Rattle.recovery.specs.Calls.{OnlyReads, FailsWithIoOr};
-ghost use Rattle.recovery.specs.Reading.{block_bytes, AreBytesOf, IsEnd, IsDamagedBlock, HasReadPages, IsAllRead};
+ghost use Rattle.recovery.specs.Reading.{block_bytes, AreBlocks, AreBytesOf, IsEnd, IsDamagedBlock, HasReadPages, IsAllRead};
 ghost use Rattle.page_action.specs.Stored.{IsStored};
 ghost use Rattle.page_codec.specs.declared.page.Page.{Page};
 ghost use Rattle.page_codec.specs.Grammar.{IsPage};
@@ -25,15 +25,34 @@ pub(crate) struct Found {
     pub(crate) last_cycle: u32,
 }
 
+/// The bytes of so many blocks are read at once.
+const BATCH: u32 = 16;
+
+/// Room for the bytes of a batch. Refused with `NoMemory` (1).
+fn batch_room(alloc: Global) -> Result<Vec<u8>, Fault>
+    ensures len { IfOk result (λ room. length room.items ≡ 65536) }
+    ensures fault { IfErr result (λ e. e ≡ Fault.NoMemory) }
+{
+    let mut room = Vec::new(alloc);
+    if room.resize(4096 * BATCH as usize, 0).is_err() {
+        return Err(Fault::NoMemory);
+    }
+    Ok(room)
+}
+
 /// The page of these bytes; none if they are zeros. Other bytes are refused with `PageDamaged` (17) for this
 /// block.
-fn page_of(block: u32, bytes: &[u8; 4096]) -> Result<Option<Page>, Fault>
+fn page_of(block: u32, bytes: &[u8]) -> Result<Option<Page>, Fault>
+    requires { length bytes.now ≡ 4096 }
     ensures found { IfOk result (λ found. AreBytesOf found bytes.now) }
     ensures fault { IfErr result (λ e. e ≡ Fault.PageDamaged block) }
     ensures no_page { IfErr result (λ e.
         (page : Page) → IsPage page → bytes.now ≡ page_bytes page → ⊥) }
     ensures in_use { IfErr result (λ e. bytes.now ≡ replicate 4096 0 → ⊥) }
 {
+    let Some(bytes) = bytes.as_array() else {
+        return Ok(None);
+    };
     if is_unused(bytes) {
         return Ok(None);
     }
@@ -43,34 +62,62 @@ fn page_of(block: u32, bytes: &[u8; 4096]) -> Result<Option<Page>, Fault>
     }
 }
 
-/// Reads the page of the block; none if it is unused. Refused with `Io` (2), and with `PageDamaged` (17) for
-/// this block.
-fn read_page<D: Device>(device: &mut D, limits: Format, block: u32) -> Result<Option<Page>, Fault>
-    requires allowed { AreLimits limits }
-    requires block { block < limits.pages }
-    requires inside { needed_length limits ≤ length (D.trace device.old).now.seen }
-    ensures found { IfOk result (λ found. IsTrue (D.is_honest device.new)
-        → AreBytesOf found (block_bytes limits block (D.trace device.old).now.seen)) }
-    ensures no_page { IfErr result (λ e. e ≡ Fault.PageDamaged block
-        → IsTrue (D.is_honest device.new) → (page : Page) → IsPage page
-        → block_bytes limits block (D.trace device.old).now.seen ≡ page_bytes page → ⊥) }
-    ensures in_use { IfErr result (λ e. e ≡ Fault.PageDamaged block
-        → IsTrue (D.is_honest device.new)
-        → block_bytes limits block (D.trace device.old).now.seen ≡ replicate 4096 0 → ⊥) }
-    ensures calls { OnlyReads D.Device device.old device.new }
-    ensures cause { FailsWithIoOr (λ e. e ≡ Fault.PageDamaged block)
-        result (D.failures device.old) (D.failures device.new) }
+/// The 4,096 bytes that stand there.
+fn piece(bytes: &[u8], at: usize) -> &[u8]
+    requires { at + 4096 ≤ length bytes.now }
+    ensures value { result.now ≡ slice_range bytes.now at (at + 4096) }
+    ensures len { length result.now ≡ 4096 }
 {
-    let mut bytes = [0; 4096];
-    device.read_at(page_place(&limits, block), &mut bytes)?;
-    page_of(block, &bytes)
+    &bytes[at..at + 4096]
 }
 
-/// Adds the pages of the blocks in use, in order, and answers how many they are. Refused with `Io` (2), and
-/// with `PageDamaged` (17) for the first block that is damaged.
-fn add_pages<D: Device>(device: &mut D, limits: Format, found: &mut Found) -> Result<u32, Fault>
+/// Adds the pages of the blocks from `from` up to `end`, whose bytes these are. It answers the first of them
+/// that is unused, or `end`. Refused with `PageDamaged` (17) for the first one that is damaged.
+fn add_blocks(from: u32, end: u32, bytes: &[u8], found: &mut Found) -> Result<u32, Fault>
+    requires order { from ≤ end }
+    requires within { end ≤ (limits_of_room found.old.room).pages }
+    requires whole { length bytes.now ≡ 4096 * (end - from) }
+    requires number { length (pages_of_room found.old.room) ≡ from }
+    ensures read { (honest : Bool) (file : List ℕ)
+        → HasReadPages (limits_of_room found.old.room) honest file found.old
+        → (IsTrue honest → AreBlocks (limits_of_room found.old.room) from end bytes.now file)
+        → OnOk result (HasReadPages (limits_of_room found.old.room) honest file found.new) }
+    ensures number { IfOk result (λ next. next ≡ length (pages_of_room found.new.room)) }
+    ensures few { IfOk result (λ next. next ≤ end) }
+    ensures unused { (file : List ℕ)
+        → AreBlocks (limits_of_room found.old.room) from end bytes.now file
+        → IfOk result (λ next. next < end
+        → block_bytes (limits_of_room found.old.room) next file ≡ replicate 4096 0) }
+    ensures limits { limits_of_room found.new.room ≡ limits_of_room found.old.room }
+    ensures frames { frames_of_room found.new.room ≡ frames_of_room found.old.room }
+    ensures cause { (honest : Bool) (file : List ℕ)
+        → HasReadPages (limits_of_room found.old.room) honest file found.old
+        → (IsTrue honest → AreBlocks (limits_of_room found.old.room) from end bytes.now file)
+        → IfErr result (IsDamagedBlock (limits_of_room found.old.room) honest file) }
+{
+    for block in from..end {
+        let at = 4096 * (block - from) as usize;
+        let Some(page) = page_of(block, piece(bytes, at))? else {
+            return Ok(block);
+        };
+        found.last_cycle = found.last_cycle.max(page.cycle);
+        found.room.add(&page)?;
+    }
+    Ok(end)
+}
+
+/// Adds the pages of the blocks in use, in order, and answers how many they are. Into `batch` the bytes of 16
+/// blocks are read at once, or of those that are left. Refused with `Io` (2), and with `PageDamaged` (17) for
+/// the first block that is damaged.
+fn add_pages<D: Device>(
+    device: &mut D,
+    limits: Format,
+    batch: &mut [u8],
+    found: &mut Found,
+) -> Result<u32, Fault>
     requires allowed { AreLimits limits }
     requires inside { needed_length limits ≤ length (D.trace device.old).now.seen }
+    requires batch { length batch.old ≡ 65536 }
     requires limits { limits_of_room found.old.room ≡ limits }
     requires empty { pages_of_room found.old.room ≡ [] }
     requires uncounted { counts_of_room found.old.room ≡ [] }
@@ -87,19 +134,22 @@ fn add_pages<D: Device>(device: &mut D, limits: Format, found: &mut Found) -> Re
         (IsDamagedBlock limits (D.is_honest device.new) (D.trace device.old).now.seen)
         result (D.failures device.old) (D.failures device.new) }
 {
-    for block in 0..limits.pages {
-        let Some(page) = read_page(device, limits, block)? else {
-            return Ok(block);
-        };
-        found.last_cycle = found.last_cycle.max(page.cycle);
-        found.room.add(&page)?;
+    let mut used = 0;
+    while used < limits.pages {
+        let end = limits.pages.min(used + BATCH);
+        let bytes = &mut batch[..4096 * (end - used) as usize];
+        device.read_at(page_place(&limits, used), bytes)?;
+        used = add_blocks(used, end, bytes, found)?;
+        if used < end {
+            return Ok(used);
+        }
     }
-    Ok(limits.pages)
+    Ok(used)
 }
 
-/// Reads the pages of the blocks in use, up to the first unused one, each once; none stays in memory. Refused
-/// with `NoMemory` (1), `Io` (2), and with `PageDamaged` (17) for the first block whose bytes are no page
-/// that may be stored there; also for block 0 if it is unused.
+/// Reads the pages of the blocks in use, up to the first unused one, each once and 16 blocks at a time; none
+/// stays in memory. Refused with `NoMemory` (1), `Io` (2), and with `PageDamaged` (17) for the first block
+/// whose bytes are no page that may be stored there; also for block 0 if it is unused.
 pub(crate) fn read_pages<D: Device>(
     alloc: Global,
     device: &mut D,
@@ -121,7 +171,8 @@ pub(crate) fn read_pages<D: Device>(
         room: StoreRoom::new(alloc, limits, frames)?,
         last_cycle: 0,
     };
-    let used = add_pages(device, limits, &mut found)?;
+    let mut batch = batch_room(alloc)?;
+    let used = add_pages(device, limits, &mut batch, &mut found)?;
     if used == 0 {
         return Err(Fault::PageDamaged(0));
     }

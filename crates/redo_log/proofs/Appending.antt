@@ -53,7 +53,7 @@ fits_with log images fit some =
     omega (arith, long, fits_more log.at (waiting_count log) (new_count (waiting_blocks log) images) log.limits.log_bytes log.fits fit (omega arith))
 
 -- what waits fits into the buffer
-pub fits_now : (at count size : ℕ) → 65536 ≤ size → (0 < count → at + (6 + 4096 * count) ≤ size) → 4 + 4096 * count ≤ size
+pub fits_now : (at count size : ℕ) → 65536 ≤ size → (0 < count → at + (6 + 4096 * count) ≤ size) → 5 + 4096 * count ≤ size
 fits_now at zero size least fits = omega arith
 fits_now at (suc count) size least fits = omega (arith, fits (omega arith))
 

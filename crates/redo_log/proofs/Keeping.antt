@@ -1,5 +1,5 @@
 -- What a log keeps stays so, whatever is written outside its range; and a crash leaves it.
-use Rattle.std.proofs.Common.{◌≡◌, ◌⊎◌, inl, inr, ⊎_elim, ℕ, ◌+◌, ◌-◌, ◌*◌, ◌<◌, ◌≤◌, Bool, true, false, List, [], ◌∷◌, ◌++◌, length, take, drop, refl, sym, ◌∙◌, ap, arith, length-append}
+use Rattle.std.proofs.Common.{◌≡◌, ◌⊎◌, inl, inr, ⊎_elim, ℕ, ◌+◌, ◌*◌, ◌<◌, ◌≤◌, Bool, true, false, List, [], ◌∷◌, ◌++◌, length, take, drop, refl, sym, ◌∙◌, ap, arith, length-append}
 use Rattle.device.specs.Places.{IsUntouched}
 use Rattle.redo_log.proofs.Imports.{take-append-drop, DiskMoment, Has, OnDisk, ChangesOnly, untouched_on, elsewhere_untouched, Page, body, spelled_groups, IsGroup, SameImages, images_of, IsAjar, IsSettled, LogHolds, MayBeLetIn, Restarts, ForgetsForced}
 use Rattle.redo_log.proofs.Imports.{RangeIsUntouched, limits_of, is_ajar, is_written, waiting_count, Log}

@@ -1,5 +1,5 @@
 -- A list with one image for each block takes further ones, and so does its buffer.
-use Rattle.std.proofs.Common.{◌≡◌, ◌⊎◌, inl, inr, ℕ, zero, suc, ◌-◌, ◌+◌, ◌*◌, ◌<◌, ◌≤◌, ◌==◌, Bool, true, false, cond, List, [], ◌∷◌, ◌++◌, length, take, drop, get_or, Vec, Option, Some, None, refl, sym, ◌∙◌, ap, subst, arith, ⊎_elim, length-drop, append_assoc, length-take-le}
+use Rattle.std.proofs.Common.{◌≡◌, ◌⊎◌, inl, inr, ℕ, zero, suc, ◌-◌, ◌+◌, ◌*◌, ◌<◌, ◌≤◌, ◌==◌, Bool, true, false, cond, List, [], ◌∷◌, ◌++◌, length, take, drop, get_or, Vec, Option, Some, None, refl, sym, ◌∙◌, ap, subst, arith, ⊎_elim, length-append, length-drop, append_assoc, length-take-le}
 use Rattle.std.proofs.lemmas.Slice.{take-put_mid}
 use Rattle.std.specs.declared.alloc.Global.{Global}
 use Rattle.std.specs.Vec.{with_items}
@@ -204,3 +204,32 @@ laid_still limits order v sealed laid was long same a = record {
   buffered = ap (λ (l : List ℕ). take (4096 * length order) (drop 4 l)) (with_items_is v sealed long)
       ∙ same ∙ ap (λ (l : List ℕ). take (4096 * length order) (drop 4 l)) was ∙ a.buffered;
 }
+
+-- what was laid lies so still if bytes came after those that were
+pub laid_longer : (limits : Format) (order old longer : List ℕ) (laid : List Page) → take (length old) longer ≡ old → (0 < length order → 5 + 4096 * length order ≤ length old)
+    → AreLaid limits order old laid → AreLaid limits order longer laid
+laid_longer limits order old longer laid kept reaches a = record {
+  counted = a.counted;
+  images = a.images;
+  blocks = a.blocks;
+  buffered = bytes_same (length order) reaches ∙ a.buffered;
+}
+  where
+    bytes_same : (n : ℕ) → (0 < n → 5 + 4096 * n ≤ length old) → take (4096 * n) (drop 4 longer) ≡ take (4096 * n) (drop 4 old)
+    bytes_same zero reaches = refl
+    bytes_same (suc n) reaches =
+        let m = 4096 * suc n in
+        sym (drop-take 4 m longer)
+        ∙ (ap (drop 4) (sym (take-take (4 + m) (length old) longer (omega (arith, reaches (omega arith)))) ∙ ap (take (4 + m)) kept)
+        ∙ drop-take 4 m old)
+
+-- bytes that are written over others leave the length
+pub length-put : (a k : ℕ) (xs ys : List ℕ) → length ys ≡ k → a + k ≤ length xs → length (put_mid a k xs ys) ≡ length xs
+length-put a k xs ys long fits = omega (
+  arith,
+  length-append (take a xs) (ys ++ drop k (drop a xs)),
+  length-append ys (drop k (drop a xs)),
+  length-take-le a xs (omega (arith, fits)),
+  length-drop k (drop a xs),
+  length-drop a xs,
+)

@@ -142,3 +142,10 @@ module _ (limits : Format) (log : List ℕ) (at : ℕ) (lasts : List ℕ) (s : G
         (groups_end limits log (drop at log) s.images s.read (λ e. shut (sym (gate_at log at) ∙ e)));
     noted = s.noted;
   }
+
+-- bytes whose first gate isn't open stand for no image
+pub none_stands : (limits : Format) (log : List ℕ) → 4096 ≤ length log → get_or log 0 0 ≢ 1 → AreAllImages limits log [] 0
+unfolding all_noted groups_noted_start
+none_stands limits log long shut =
+    let start = groups_noted_start limits log (replicate limits.pages 0) refl long in
+    (all_noted limits log 0 (replicate limits.pages 0) start shut).all

@@ -1,10 +1,11 @@
 -- From what was read to a log that keeps it.
-use Rattle.std.proofs.Common.{◌≡◌, inl, true, ℕ, ◌+◌, ◌-◌, ◌≤◌, List, [], ◌∷◌, ◌++◌, length, take, drop, get_or, Bool, IsTrue, false, sym, ◌∙◌, ap, subst, arith, append_assoc, length-append, length-drop, length-take-le}
+use Rattle.std.proofs.Common.{◌≡◌, ◌≢◌, inl, refl, true, ℕ, ◌+◌, ◌-◌, ◌≤◌, List, [], ◌∷◌, ◌++◌, length, take, drop, get_or, Bool, IsTrue, false, sym, ◌∙◌, ap, subst, arith, append_assoc, length-append, length-drop, length-take-le}
 use Rattle.redo_log.proofs.Imports.{drop-length, get_or-drop, get_or-take, get_or_append_left, slice_range, DiskMoment, Has, Format, Page, images_of, IsImage, AreImages, AreGroups, spelled_groups}
 use Rattle.redo_log.proofs.Imports.{SpellsGroups, log_range, IsSettled, waiting_blocks, AreAllImages, AreAllNoted, Replays, IsReplay, bytes_at, Log}
 use Rattle.redo_log.specs.declared.log.Replayed.{Replayed}
 use Rattle.redo_log.proofs.ImageLists.{same_eq, all-append}
 use Rattle.redo_log.proofs.Laying.{none_laid}
+use Rattle.redo_log.proofs.Noting.{none_stands}
 use Rattle.redo_log.proofs.Forcing.{whole_list}
 
 -- what was read is the log's range
@@ -86,4 +87,19 @@ replay_found limits honest m found log lasts end n log_is lasts_are read fits li
         ∙ (ap (λ (l : List ℕ). bytes_at log (get_or l block 0)) (sym lasts_are) ∙ n.noted.each block);
   };
   replays = λ h. replayed limits m found.log log n.images end (read h) fits n.all limits_are at_is idle alive shut unwritten;
+}
+
+-- if the first gate isn't open, nothing is found
+pub nothing_found : (limits : Format) (honest : Bool) (m : DiskMoment) (found : Replayed) → 4096 + limits.log_bytes ≤ length m.seen → 65536 ≤ limits.log_bytes → (IsTrue honest → get_or m.seen 4096 0 ≢ 1)
+    → found.lasts.items ≡ [] → found.log.limits ≡ limits → found.log.at ≡ 0 → waiting_blocks found.log ≡ [] → found.log.stopped ≡ false → found.log.ajar ≡ false → found.log.written ≡ false → IsReplay limits honest m found
+nothing_found limits honest m found fits least closed none limits_are at_is idle alive shut unwritten = record {
+  images = [];
+  good = tt;
+  lasts = record { each = λ block. ap (λ (l : List ℕ). bytes_at found.log.buffer.items (get_or l block 0)) none };
+  replays = λ h.
+      let range = log_range limits m.seen in
+      let first : get_or range 0 0 ≡ get_or m.seen 4096 0 = get_or-take limits.log_bytes (drop 4096 m.seen) 0 0 (omega (arith, least)) ∙ get_or-drop 4096 m.seen 0 0 in
+      let long : 4096 ≤ length range = omega (arith, length-take-le limits.log_bytes (drop 4096 m.seen) (omega (arith, length-drop 4096 m.seen, fits)), least) in
+      let none = none_stands limits range long (λ is_open. closed h (sym first ∙ is_open)) in
+      replayed limits m found.log range [] 0 refl fits none limits_are at_is idle alive shut unwritten;
 }

@@ -1,5 +1,5 @@
 -- The blocks of images, and lists that have one image for each block.
-use Rattle.std.specs.Prelude.{◌≡◌, ℕ, suc, ◌*◌, ◌<◌, ◌==◌, ◌||◌, Bool, false, if◌then◌else◌, List, [], ◌∷◌, ◌++◌, length, take, drop}
+use Rattle.std.specs.Prelude.{◌≡◌, ℕ, suc, ◌+◌, ◌*◌, ◌<◌, ◌≤◌, ◌==◌, ◌||◌, Bool, false, if◌then◌else◌, List, [], ◌∷◌, ◌++◌, length, take, drop}
 use Rattle.std.specs.List.{AllByRecursion}
 use Rattle.index_model.specs.declared.format.Format.{Format}
 use Rattle.page_codec.specs.declared.page.Page.{Page}
@@ -52,3 +52,7 @@ pub record AreLaid (limits : Format) (order buffer : List ℕ) (laid : List Page
   pub images : AreImages limits laid
   pub blocks : image_blocks laid ≡ order
   pub buffered : take (4096 * length order) (drop 4 buffer) ≡ images_bytes laid
+
+-- if one waits, the buffer has room for their number and for an image of each, and a byte behind them
+abbrev pub ReachesBehind : List ℕ → List ℕ → Type 0
+ReachesBehind order buffer = 0 < length order → 5 + 4096 * length order ≤ length buffer

@@ -1,5 +1,5 @@
 -- The bytes of a log: groups of images, each after a gate.
-use Rattle.std.specs.Prelude.{◌≡◌, ◌≢◌, ℕ, ◌^◌, ◌<◌, ◌≤◌, List, [], ◌∷◌, ◌++◌, length, take, drop}
+use Rattle.std.specs.Prelude.{◌≡◌, ◌≢◌, ℕ, ◌^◌, ◌<◌, ◌≤◌, List, [], ◌∷◌, ◌++◌, length, take, drop, get_or}
 use Rattle.std.specs.Int.{w32, to_le_bytes}
 use Rattle.std.specs.List.{AllByRecursion}
 use Rattle.page_codec.specs.Places.{log_start}
@@ -57,3 +57,7 @@ pub record SpellsGroups (limits : Format) (bytes : List ℕ) (groups : List (Lis
 -- the log's range of a device
 abbrev pub log_range : Format → List ℕ → List ℕ
 log_range limits file = take limits.log_bytes (drop log_start file)
+
+-- the log's first gate isn't open on this device
+abbrev pub IsClosedAtStart : List ℕ → Type 0
+IsClosedAtStart file = get_or file log_start 0 ≢ 1

@@ -1,11 +1,12 @@
 //! The log: it is opened and closed, and takes the images of actions.
 
-ghost use Rattle.std.specs.Prelude.{◌⊎◌, ◌≡◌, ◌≤◌, ◌<◌, ◌+◌, ◌*◌, ◌/◌, ◌^◌, ℕ, suc, true, false, Err, IsTrue, IsErrOf, OnOk, OnErr, IfOk, IfErr, is_err, length, slice_index, vec_capacity};
+ghost use Rattle.std.specs.Prelude.{Bool, [], ◌⊎◌, ◌≡◌, ◌≤◌, ◌<◌, ◌+◌, ◌*◌, ◌/◌, ◌^◌, ℕ, suc, true, false, Err, IsTrue, IsErrOf, OnOk, OnErr, IfOk, IfErr, is_err, length, slice_index, vec_capacity};
 ghost use Rattle.std.specs.Bool.{OnTrue, OnFalse};
 ghost use Rattle.index_model.specs.Limits.{AreLimits};
-ghost use Rattle.page_codec.specs.Places.{log_end};
-ghost use Rattle.redo_log.specs.Groups.{AreImages};
-ghost use Rattle.redo_log.specs.Blocks.{with_blocks, new_count};
+ghost use Rattle.page_codec.specs.Places.{log_start, log_end};
+ghost use Rattle.device.specs.Disk.{DiskMoment, CountsFailures};
+ghost use Rattle.redo_log.specs.Groups.{AreImages, IsClosedAtStart};
+ghost use Rattle.redo_log.specs.Blocks.{with_blocks, new_count, ReachesBehind};
 
 use crate::gate::shut;
 use crate::lay::lay_images;
@@ -16,8 +17,8 @@ use index_model::{Fault, Format};
 use page_codec::{LOG_START, Page};
 use std::alloc::Global;
 
-/// A log, which lies in its range of a device. The room for the group that waits was made when it
-/// was opened.
+/// A log, which lies in its range of a device. The room for the group that waits was kept free when it was
+/// opened, and is used as images are laid.
 #[derive(Drop)]
 pub struct Log {
     pub(crate) limits: Format,
@@ -31,11 +32,13 @@ pub struct Log {
     pub(crate) ajar: bool,
     /// The blocks whose images wait, one image for each.
     pub(crate) waiting: Waiting,
-    /// The group that waits: room for the number, and its images.
+    /// The group that waits: room for the number, and its images. What it has no images for it doesn't
+    /// have as yet, inside of its capacity.
     pub(crate) buffer: Vec<u8>,
     ghost least: { 65536 ≤ limits.log_bytes },
     ghost most: { limits.log_bytes ≤ 16777216 },
-    ghost sized: { length buffer.items ≡ limits.log_bytes },
+    ghost reserved: { limits.log_bytes ≤ vec_capacity buffer },
+    ghost reaches: { ReachesBehind waiting.blocks.items buffer.items },
     ghost room: { at + 1 ≤ limits.log_bytes },
     ghost fits: { 0 < length waiting.blocks.items
         → at + (6 + 4096 * length waiting.blocks.items) ≤ limits.log_bytes },
@@ -46,7 +49,7 @@ pub struct Log {
 }
 
 impl Log {
-    ghost use Rattle.redo_log.specs.Kept.{limits_of, is_stopped, is_ajar, actions_of, waiting_count, waiting_blocks, groups_end, end_with, ImagesFit, TakesNoMore};
+    ghost use Rattle.redo_log.specs.Kept.{limits_of, is_stopped, is_ajar, is_written, actions_of, waiting_count, waiting_blocks, groups_end, end_with, ImagesFit, TakesNoMore};
     ghost use Rattle.redo_log.specs.Kept.{AddsAction, ForgetsForced, RestartsOrEmptyThroughout, SameLog, ChangesItsRange, KeepsWhileUntouched, WhatItKeepsRestarts, IoOrStopped};
     ghost use Rattle.redo_log.specs.Reading.{IsReplay, IsOpened, IsDamaged, ReplayFails};
 
@@ -192,8 +195,89 @@ impl Log {
         Ok(())
     }
 
+    // A log of so many bytes, of whose groups the last one ends there. Nothing waits in it.
+    fn opened(alloc: Global, limits: Format, at: usize, buffer: Vec<u8>) -> Result<Log, Fault>
+        requires limits { AreLimits limits }
+        requires room { at + 1 ≤ limits.log_bytes }
+        requires reserved { limits.log_bytes ≤ vec_capacity buffer }
+        ensures opened { IfOk result (IsOpened limits) }
+        ensures idle { IfOk result (λ log. waiting_blocks log ≡ []) }
+        ensures shut { IfOk result (λ log. (is_ajar log ≡ false) × (is_written log ≡ false)) }
+        ensures end { IfOk result (λ log. groups_end log ≡ at) }
+        ensures buffer { IfOk result (λ log. log.buffer ≡ buffer) }
+        ensures cause { IfErr result (λ e. e ≡ Fault.NoMemory) }
+    {
+        let Ok(waiting) = Waiting::new(alloc, limits.pages, limits.log_bytes / 4096) else {
+            return Err(Fault::NoMemory);
+        };
+        Ok(Log {
+            limits,
+            at,
+            actions: 0,
+            stopped: false,
+            written: false,
+            ajar: false,
+            waiting,
+            buffer,
+        })
+    }
+
+    // Opens a log whose first gate isn't open. Its room is kept free, and nothing of it is touched.
+    fn replay_none(alloc: Global, limits: Format) -> Result<Replayed, Fault>
+        requires limits { AreLimits limits }
+        ensures ok { IfOk result (λ found. (honest : Bool) (m : DiskMoment)
+            → log_end limits ≤ length m.seen
+            → (IsTrue honest → IsClosedAtStart m.seen) → IsReplay limits honest m found) }
+        ensures opened { IfOk result (λ r. IsOpened limits r.log) }
+        ensures cause { IfErr result (λ e. e ≡ Fault.NoMemory) }
+    {
+        let Ok(buffer) = Vec::with_capacity(alloc, limits.log_bytes as usize) else {
+            return Err(Fault::NoMemory);
+        };
+        Ok(Replayed {
+            log: Log::opened(alloc, limits, 0, buffer)?,
+            lasts: Vec::new(alloc),
+        })
+    }
+
+    // Reads the whole range, and opens the log that lies there.
+    fn replay_range<D: Device>(
+        alloc: Global,
+        device: &mut D,
+        limits: Format,
+    ) -> Result<Replayed, Fault>
+        requires limits { AreLimits limits }
+        requires range { log_end limits ≤ length (D.trace device.old).now.seen }
+        ensures ok { IfOk result
+            (IsReplay limits (D.is_honest device.new) (D.trace device.old).now) }
+        ensures damaged { IsErrOf result Fault.LogDamaged → IsTrue (D.is_honest device.new)
+            → IsDamaged limits (D.trace device.old).now }
+        ensures opened { IfOk result (λ r. IsOpened limits r.log) }
+        ensures trace { D.trace device.new ≡ D.trace device.old }
+        ensures honest { IsTrue (D.is_honest device.new) → IsTrue (D.is_honest device.old) }
+        ensures cause { ReplayFails result (D.failures device.old) (D.failures device.new) }
+    {
+        let Ok(mut buffer) = vec![in alloc; 0u8; limits.log_bytes as usize] else {
+            return Err(Fault::NoMemory);
+        };
+        let Ok(mut lasts) = vec![in alloc; 0u32; limits.pages as usize] else {
+            return Err(Fault::NoMemory);
+        };
+        let Ok(()) = device.read_at(LOG_START, &mut buffer) else {
+            return Err(Fault::Io);
+        };
+        let Some(at) = note_groups(&limits, &mut lasts, &buffer) else {
+            return Err(Fault::LogDamaged);
+        };
+        Ok(Replayed {
+            log: Log::opened(alloc, limits, at, buffer)?,
+            lasts,
+        })
+    }
+
     /// Opens the log that lies on a device, and keeps of each block the bytes of its last image in the
-    /// open groups. It reads the log's range once, and judges each image once.
+    /// open groups. It reads the first gate, and the log's range once if that is open, and judges each image
+    /// once.
     ///
     /// Refused: if the device fails (`Io`, 2), if memory is refused (`NoMemory`, 1), and with `LogDamaged`
     /// (16) exactly if an open group is none.
@@ -215,43 +299,35 @@ impl Log {
         ensures honest { IsTrue (D.is_honest device.new) → IsTrue (D.is_honest device.old) }
         ensures cause { ReplayFails result (D.failures device.old) (D.failures device.new) }
     {
-        let Ok(mut buffer) = vec![in alloc; 0u8; limits.log_bytes as usize] else {
-            return Err(Fault::NoMemory);
-        };
-        let Ok(waiting) = Waiting::new(alloc, limits.pages, limits.log_bytes / 4096) else {
-            return Err(Fault::NoMemory);
-        };
-        let Ok(mut lasts) = vec![in alloc; 0u32; limits.pages as usize] else {
-            return Err(Fault::NoMemory);
-        };
-        let Ok(()) = device.read_at(LOG_START, &mut buffer) else {
-            return Err(Fault::Io);
-        };
-        let Some(at) = note_groups(&limits, &mut lasts, &buffer) else {
-            return Err(Fault::LogDamaged);
-        };
-        Ok(Replayed {
-            log: Log {
-                limits,
-                at,
-                actions: 0,
-                stopped: false,
-                written: false,
-                ajar: false,
-                waiting,
-                buffer,
-            },
-            lasts,
-        })
+        if is_gate_open(device)? {
+            Log::replay_range(alloc, device, limits)
+        } else {
+            Log::replay_none(alloc, limits)
+        }
     }
+}
+
+/// Whether the log's first gate is open: so a group stands behind it. Refused with `Io` (2).
+fn is_gate_open<D: Device>(device: &mut D) -> Result<bool, Fault>
+    requires range { log_start + 1 ≤ length (D.trace device.old).now.seen }
+    ensures shut { IfOk result (λ is_open. is_open ≡ false → IsTrue (D.is_honest device.new)
+        → IsClosedAtStart (D.trace device.old).now.seen) }
+    ensures trace { D.trace device.new ≡ D.trace device.old }
+    ensures honest { IsTrue (D.is_honest device.new) → IsTrue (D.is_honest device.old) }
+    ensures failures { CountsFailures result (D.failures device.old) (D.failures device.new) }
+{
+    let mut gate = [0];
+    device.read_at(LOG_START, &mut gate)?;
+    Ok(gate[0] == 1)
 }
 
 /// A log as it was found, with the last image of each block in its open groups.
 #[derive(Drop)]
 pub struct Replayed {
-    /// Its buffer has the bytes that were read: nothing waits in it as yet.
+    /// Its buffer has the bytes that were read, if the first gate was open: nothing waits in it as yet.
     pub log: Log,
-    /// For each block, where its last image lies in these bytes; 0 for a block without one.
+    /// For each block, where its last image lies in these bytes; 0 for a block without one. If no group is
+    /// open it has no places.
     lasts: Vec<u32>,
     ghost inside: { (k : ℕ) → k < length lasts.items
         → slice_index lasts.items k + 4096 ≤ length log.buffer.items },

@@ -178,11 +178,11 @@ fn stops<S: PageStore>(index: &mut Index<S>) -> Result<[bool; 7], Fault> {
     ])
 }
 
-// To open makes 7 calls of the device, the first insert reads two pages, the first commit makes 4: the next
+// To open makes 5 calls of the device, the first insert reads two pages, the first commit makes 4: the next
 // is the first of the second commit.
 fn failing(alloc: Global) -> Result<MemDevice, Fault> {
     let mut device = made(alloc)?;
-    device.fail_at(14);
+    device.fail_at(12);
     Ok(device)
 }
 

@@ -71,12 +71,12 @@ fn short_answers(alloc: Global) -> Result<[Result<(), Fault>; 2], Fault> {
     Ok([create(&mut short, &limits(64)), create(&mut short, &few)])
 }
 
-/// Each of the 70 calls of a create fails once, and a 71st isn't made: zeros, sync, gate, 62 blocks, two
-/// pages, sync, superblock, sync. The first call whose answer isn't that, or 0.
+/// Each of the 12 calls of a create fails once, and a 13th isn't made: zeros, sync, gate, 62 blocks by 16,
+/// two pages, sync, superblock, sync. The first call whose answer isn't that, or 0.
 fn wrong_call(device: &mut MemDevice) -> u64 {
-    for n in 1..72u64 {
+    for n in 1..14u64 {
         device.fail_at(n);
-        let wanted = if n < 71 { Err(Fault::Io) } else { Ok(()) };
+        let wanted = if n < 13 { Err(Fault::Io) } else { Ok(()) };
         if create(device, &limits(64)) != wanted {
             return n;
         }
@@ -225,15 +225,15 @@ fn leaves_all(alloc: Global, device: &MemDevice) -> bool {
     true
 }
 
-/// Opens a device a call of which fails, the nth from now on: whether it's refused, up to the twelfth call,
+/// Opens a device a call of which fails, the nth from now on: whether it's refused, up to the tenth call,
 /// and what a crash leaves then has all that was forced. Answers also the device if it was refused.
 fn fails_right(alloc: Global, found: MemDevice, n: u64) -> (bool, Option<MemDevice>) {
     match open(alloc, found, 16) {
-        Ok(store) => ((n, store.used()) == (13, 3), None),
+        Ok(store) => ((n, store.used()) == (11, 3), None),
         Err(refused) => {
             let are_left = leaves_all(alloc, &refused.device);
             (
-                are_left && n < 13 && refused.fault == Fault::Io,
+                are_left && n < 11 && refused.fault == Fault::Io,
                 Some(refused.device),
             )
         }
@@ -265,7 +265,7 @@ fn goes_on(alloc: Global, device: &MemDevice, image: CrashImage, n: u64) -> Resu
 /// The first call of an open of what a crash leaves of a device that fails otherwise, or 0.
 fn wrong_opening(alloc: Global, device: &MemDevice) -> u64 {
     for image in IMAGES {
-        for n in 1..14 {
+        for n in 1..12 {
             if stops_right(alloc, device, image, n) != Ok(true)
                 || goes_on(alloc, device, image, n) != Ok(true)
             {
@@ -276,8 +276,8 @@ fn wrong_opening(alloc: Global, device: &MemDevice) -> u64 {
     0
 }
 
-// It reads the superblock, syncs, reads the log, writes two images and syncs them, closes the log by a write
-// and a sync, and reads three pages and the unused block after them.
+// It reads the superblock, syncs, reads the first gate and the log, writes two images and syncs them, closes
+// the log by a write and a sync, and reads all eight blocks at once.
 #[test]
 fn each_call_of_an_open_fails(rt: HostRuntime) -> Result<(), Fail> {
     let device = busy_device(rt.alloc())?;
@@ -294,12 +294,12 @@ fn used(alloc: Global, device: MemDevice) -> u32 {
 }
 
 /// Whether so many pages may be in use if a create stopped at this call: zeros over the superblock, sync,
-/// gate, 6 blocks, two pages, sync, superblock, sync. A crash leaves the index of three pages that was there,
-/// none, or the new one of two.
+/// gate, 6 blocks at once, two pages, sync, superblock, sync. A crash leaves the index of three pages that
+/// was there, none, or the new one of two.
 fn may_be_used(n: u64, found: u32) -> bool {
     match n {
         1..3 => found == 0 || found == 3,
-        3..13 => found == 0,
+        3..8 => found == 0,
         _ => found == 0 || found == 2,
     }
 }
@@ -335,7 +335,7 @@ fn create_stops(
 /// The first call of such a create that stops otherwise, or 0.
 fn wrong_create(alloc: Global, device: &MemDevice) -> u64 {
     for image in IMAGES {
-        for n in 1..15 {
+        for n in 1..10 {
             if create_stops(alloc, device, image, n) != Ok(true) {
                 return n;
             }

@@ -1,63 +1,72 @@
-use Rattle.std.proofs.Common.{◌≡◌, ◌⊎◌, ◌<◌, ◌≤◌, ◌∙◌, ℕ, Bool, IsTrue, List, Some, length, inl, inr, sym, ap, subst, arith, length-append, [], ◌∷◌}
-use Rattle.recovery.proofs.Imports.{Fault, IndexFull, PageDamaged, Format, IsStored, Page, limits_of_room, pages_of_room, IsIoOr, block_bytes, AreBytesOf, HasReadPages, IsDamagedBlock, Found}
-use Rattle.recovery.proofs.Blocks.{read_more, damaged_here, refused}
+use Rattle.std.proofs.Common.{◌≡◌, ◌≤◌, ◌∙◌, ◌-◌, ◌*◌, ℕ, IsTrue, List, length, take, drop, inr, sym, ap, subst, arith, length-append, length-drop, length-take-le}
+use Rattle.device.specs.Disk.{Trace}
+use Rattle.recovery.proofs.Imports.{Format, limits_of_room, IsIoOr, AreBlocks, HasReadPages, IsDamagedBlock}
+use Rattle.recovery.proofs.Batches.{read_still, blocks_read}
+use Rattle.recovery.proofs.Blocks.{refused}
 use Rattle.recovery.proofs.reading.add_pages.Given.{Over}
-use Rattle.recovery.proofs.reading.add_pages.Goals.{In-Some}
+use Rattle.recovery.proofs.reading.add_pages.Goals.{After-add_blocks}
 use Rattle.recovery.proofs.reading.add_pages.Goals as goal
 
--- the page was not taken: it isn't one that may be stored there
-not_taken : (limits : Format) (before after : Bool) (file : List ℕ) (found : Found) (page : Page) (block fails failed : ℕ) (e : Fault)
-    → (IsTrue after → IsTrue before) → HasReadPages limits before file found → length (pages_of_room found.room) ≡ block → block < limits.pages
-    → fails ≡ failed → (IsTrue after → AreBytesOf (Some page) (block_bytes limits block file))
-    → ((e ≡ IndexFull) × ((limits_of_room found.room).pages ≤ length (pages_of_room found.room)))
-    ⊎ ((e ≡ PageDamaged (length (pages_of_room found.room))) × (IsStored (limits_of_room found.room) (length (pages_of_room found.room)) page → ⊥))
-    → IsIoOr (IsDamagedBlock limits after file) failed fails e
-not_taken limits before after file found page block fails failed e earlier read count within same here (inl full) =
-    absurd (omega (arith, full.1, ap (λ (l : Format). l.pages) read.limits_are, count, within))
-not_taken limits before after file found page block fails failed e earlier read count within same here (inr wrong) =
-    let used = length (pages_of_room found.room) in
-    inr (
-      (
-        used,
-        wrong.0,
-        λ honest. damaged_here limits before file found page read (earlier honest) (omega (arith, count, within))
-            (subst (λ (b : ℕ). AreBytesOf (Some page) (block_bytes limits b file)) (sym count) (here honest))
-            (subst (λ (l : Format). IsStored l used page → ⊥) read.limits_are wrong.1),
-      ),
-      same,
-    )
+-- what is known once the blocks of a batch were judged
+module _ (g : Over) (c : After-add_blocks g) where
+  abbrev file : List ℕ
+  file = (g.D.Device.trace c.args.device.now).now.seen
 
--- the bytes of the block are those of the page that was read
-page_read : (g : Over) (c : In-Some g) → IsTrue (g.D.Device.is_honest c.read_page.new.device)
-    → AreBytesOf (Some c.in-Some.page) (block_bytes c.args.limits c.loop-block.block (g.D.Device.trace c.args.device.now).now.seen)
-page_read g c honest =
-    subst (λ found. AreBytesOf found (block_bytes c.args.limits c.loop-block.block (g.D.Device.trace c.args.device.now).now.seen)) c.in-Some.is
-    (subst (λ t. AreBytesOf c.in_ok-page.field-0 (block_bytes c.args.limits c.loop-block.block t.now.seen)) c.loop-block.invariant.trace (c.in_ok-page.ensures.found honest))
+  room : limits_of_room c.loop-used.found.room ≡ c.args.limits
+  room = c.loop-used.invariant.read.limits_are
 
-pub returns-in_err-add-clause-cause : goal.returns-in_err-add-clause-cause
-returns-in_err-add-clause-cause g c =
-    let honest = g.D.Device.is_honest c.read_page.new.device in
-    let file = (g.D.Device.trace c.args.device.now).now.seen in
-    refused c.from_residual-in_err-add.result c.in_err-add.field-0.0 _
-    (IsIoOr (IsDamagedBlock c.args.limits honest file) (g.D.Device.failures c.args.device.now) (g.D.Device.failures c.read_page.new.device)) c.from_residual-in_err-add.ensures.1
-    (not_taken c.args.limits (g.D.Device.is_honest c.loop-block.device) honest file c.loop-block.found c.in-Some.page c.loop-block.block _ _ _
-    c.read_page.ensures.calls.honest c.loop-block.invariant.read c.loop-block.invariant.count
-    c.loop-block-test.true (c.in_ok-page.ensures.cause ∙ c.loop-block.invariant.failures) (page_read g (goal.at.returns-in_err-add-clause-cause g c).In-Some) c.in_err-add.ensures.cause)
+  before : HasReadPages (limits_of_room c.loop-used.found.room) (g.D.Device.is_honest c.read_at.new.self) file c.loop-used.found
+  before =
+      subst (λ (l : Format). HasReadPages l (g.D.Device.is_honest c.read_at.new.self) file c.loop-used.found) (sym room)
+      (read_still c.args.limits (g.D.Device.is_honest c.loop-used.device) _ file c.loop-used.found (λ honest. (c.read_at.ensures.honest.0 honest).0) c.loop-used.invariant.read)
 
-pub loop-block-preserved : goal.loop-block-preserved
-loop-block-preserved g c =
-    let so_far = c.loop-block.invariant in
-    let limits = c.args.limits in
-    let page = page_read g (goal.at.loop-block-preserved g c).In-Some in
-    let stored = subst (λ (l : Format). IsStored l (length (pages_of_room c.loop-block.found.room)) c.in-Some.page) so_far.read.limits_are c.in_ok-add.ensures.stored in
+  part : 4096 * (c.min-end.result - c.loop-used.used) ≤ length c.loop-used.batch
+  part = omega (arith, c.loop-used.invariant.batch, c.min-end.ensures, c.loop-used-test.true)
+
+  size : length (take (4096 * (c.min-end.result - c.loop-used.used)) c.loop-used.batch) ≡ 4096 * (c.min-end.result - c.loop-used.used)
+  size = length-take-le (4096 * (c.min-end.result - c.loop-used.used)) c.loop-used.batch part
+
+  are : IsTrue (g.D.Device.is_honest c.read_at.new.self) → AreBlocks (limits_of_room c.loop-used.found.room) c.loop-used.used c.min-end.result c.read_at.new.buf file
+  are honest =
+      blocks_read c.args.limits _ c.loop-used.used c.min-end.result _ _ _ _ _ room c.page_place.ensures size (omega (arith, c.min-end.ensures, c.loop-used-test.true))
+      (ap (λ (t : Trace). t.now.seen) c.loop-used.invariant.trace) (c.in_ok-read_at.ensures.read honest)
+
+pub loop-used-preserved : goal.loop-used-preserved
+loop-used-preserved g c =
+    let c' = (goal.at.loop-used-preserved g c).After-add_blocks in
+    let so_far = c.loop-used.invariant in
     record {
-      read = read_more limits (g.D.Device.is_honest c.loop-block.device) (g.D.Device.is_honest c.read_page.new.device) _ c.loop-block.found _
-          c.in-Some.page c.read_page.ensures.calls.honest so_far.read c.add.ensures.limits
-          c.in_ok-add.ensures.done c.in_ok-add.ensures.counts stored c.max-found.ensures
-          (λ honest. ap (λ (b : ℕ). block_bytes limits b (g.D.Device.trace c.args.device.now).now.seen) so_far.count ∙ (page honest).1);
-      count = omega (arith, ap length c.in_ok-add.ensures.done, length-append (pages_of_room c.loop-block.found.room) (c.in-Some.page ∷ []), so_far.count);
-      frames = c.add.ensures.frames ∙ so_far.frames;
-      trace = c.read_page.ensures.calls.trace ∙ so_far.trace;
-      honest = λ honest. so_far.honest (c.read_page.ensures.calls.honest honest);
-      failures = c.in_ok-page.ensures.cause ∙ so_far.failures;
+      read = subst (λ (l : Format). HasReadPages l (g.D.Device.is_honest c.read_at.new.self) (file g c') c.add_blocks.new.found) (room g c') (c.in_ok-used.ensures.read (g.D.Device.is_honest c.read_at.new.self) (file g c') (before g c') (are g c'));
+      count = sym c.in_ok-used.ensures.number;
+      few = omega (arith, c.in_ok-used.ensures.few, c.min-end.ensures);
+      batch = omega (
+        arith,
+        length-append c.read_at.new.buf (drop (4096 * (c.min-end.result - c.loop-used.used)) c.loop-used.batch),
+        length-drop (4096 * (c.min-end.result - c.loop-used.used)) c.loop-used.batch,
+        c.read_at.auto.buf,
+        size g c',
+        part g c',
+        so_far.batch,
+      );
+      frames = c.add_blocks.ensures.frames ∙ so_far.frames;
+      trace = c.read_at.ensures.trace ∙ so_far.trace;
+      honest = λ honest. so_far.honest (c.read_at.ensures.honest.0 honest).0;
+      failures = c.in_ok-read_at.ensures.failures ∙ so_far.failures;
     }
+
+pub returns-in_err-used-clause-cause : goal.returns-in_err-used-clause-cause
+returns-in_err-used-clause-cause g c =
+    let c' = (goal.at.returns-in_err-used-clause-cause g c).After-add_blocks in
+    let honest = g.D.Device.is_honest c.read_at.new.self in
+    refused c.from_residual-in_err-used.result c.in_err-used.field-0.0 _
+    (IsIoOr (IsDamagedBlock c.args.limits honest (file g c')) (g.D.Device.failures c.args.device.now) (g.D.Device.failures c.read_at.new.self)) c.from_residual-in_err-used.ensures.1
+    (inr (
+      subst (λ (l : Format). IsDamagedBlock l honest (file g c') c.in_err-used.field-0.0) (room g c') (c.in_err-used.ensures.cause honest (file g c') (before g c') (are g c')),
+      c.in_ok-read_at.ensures.failures ∙ c.loop-used.invariant.failures,
+    ))
+
+pub returns-then-used-end-clause-read : goal.returns-then-used-end-clause-read
+returns-then-used-end-clause-read g c =
+    let c' = (goal.at.returns-then-used-end-clause-read g c).After-add_blocks in
+    let honest = g.D.Device.is_honest c.read_at.new.self in
+    subst (λ (l : Format). HasReadPages l honest (file g c') c.add_blocks.new.found) (room g c') (c.in_ok-used.ensures.read honest (file g c') (before g c') (are g c'))

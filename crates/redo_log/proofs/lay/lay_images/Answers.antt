@@ -7,7 +7,7 @@ lay_image-requires-clause-room c =
     let k = c.loop-rest in
     omega (arith, with_blocks-first k.waiting.blocks.items k.rest.now c.image-item.result (omega arith) c.image-item.is, ap length k.invariant.blocks, c.requires.room)
 
-pub lay_image-requires-clause-buffer : goal.lay_image-requires-clause-buffer
-lay_image-requires-clause-buffer c =
+pub lay_image-requires-clause-reserved : goal.lay_image-requires-clause-reserved
+lay_image-requires-clause-reserved c =
     let k = c.loop-rest in
-    omega (arith, with_blocks-first k.waiting.blocks.items k.rest.now c.image-item.result (omega arith) c.image-item.is, ap length k.invariant.blocks, c.requires.buffer)
+    omega (arith, with_blocks-first k.waiting.blocks.items k.rest.now c.image-item.result (omega arith) c.image-item.is, ap length k.invariant.blocks, c.requires.reserved, k.invariant.reserved)

@@ -1,5 +1,6 @@
-use Rattle.std.proofs.Common.{◌≡◌, List, length, vec_capacity}
+use Rattle.std.proofs.Common.{◌≡◌, ◌≤◌, List, length, vec_capacity}
 use Rattle.redo_log.proofs.Imports.{Format, Page, AreImages, with_blocks, with_images, AreInside, AreLaid}
+use Rattle.redo_log.specs.Blocks.{ReachesBehind}
 use Rattle.redo_log.proofs.lay.lay_images.Given as goal
 
 abbrev pub invariant-loop-rest : goal.invariant-loop-rest
@@ -8,8 +9,10 @@ invariant-loop-rest l = record {
   places : length l.waiting.places.items ≡ length l.fn.waiting.places.items;
   capacity : vec_capacity l.waiting.blocks ≡ vec_capacity l.fn.waiting.blocks;
   inside : AreInside (length l.waiting.places.items) l.rest;
-  laid : (limits : Format) (laid : List Page) → AreImages limits l.images → AreLaid limits l.fn.waiting.blocks.items l.fn.buffer laid
-      → (now : List Page) × AreImages limits l.rest × AreLaid limits l.waiting.blocks.items l.buffer now × (with_images now l.rest ≡ with_images laid l.images);
+  reaches : ReachesBehind l.waiting.blocks.items l.buffer.items;
+  reserved : vec_capacity l.fn.buffer ≤ vec_capacity l.buffer;
+  laid : (limits : Format) (laid : List Page) → AreImages limits l.images → AreLaid limits l.fn.waiting.blocks.items l.fn.buffer.items laid
+      → (now : List Page) × AreImages limits l.rest × AreLaid limits l.waiting.blocks.items l.buffer.items now × (with_images now l.rest ≡ with_images laid l.images);
 }
 
 abbrev pub decreases-loop-rest : goal.decreases-loop-rest

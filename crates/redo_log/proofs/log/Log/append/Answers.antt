@@ -1,5 +1,5 @@
 use Rattle.std.proofs.Common.{◌+◌, ◌*◌, ◌≤◌, ◌<◌, List, ℕ, length, inr, refl, sym, ap, subst, ◌∙◌, arith}
-use Rattle.redo_log.proofs.Imports.{OnTrue_at, OnFalse_at, with_items_is, with_images, AreInside, AreLaid, waiting_blocks}
+use Rattle.redo_log.proofs.Imports.{OnTrue_at, OnFalse_at, AreInside, waiting_blocks}
 use Rattle.redo_log.proofs.BlockLists.{images_inside, length-with_blocks, new_count-most}
 use Rattle.redo_log.proofs.Appending.{keeps_more, fits_with, fits_now, fits_listed}
 use Rattle.redo_log.proofs.log.Log.append.Goals as goal
@@ -18,16 +18,10 @@ lay_images-requires-clause-room c =
     let s = c.args.self.now in
     fits_listed s.at _ s.limits.log_bytes _ s.listed (fits_with s c.args.images.now (OnTrue_at c.if-not-fits.false c.fits.ensures.fit))
 
-pub lay_images-requires-clause-buffer : goal.lay_images-requires-clause-buffer
-lay_images-requires-clause-buffer c =
+pub lay_images-requires-clause-reserved : goal.lay_images-requires-clause-reserved
+lay_images-requires-clause-reserved c =
     let s = c.args.self.now in
-    omega (arith, s.sized, ap length c.deref_mut.ensures.value, fits_now s.at _ s.limits.log_bytes s.least (fits_with s c.args.images.now (OnTrue_at c.if-not-fits.false c.fits.ensures.fit)))
-
-pub invariant_of-self-clause-sized : goal.invariant_of-self-clause-sized
-invariant_of-self-clause-sized c =
-    let s = c.args.self.now in
-    let long = c.lay_images.auto.buffer ∙ c.deref_mut.ensures.len in
-    ap length (with_items_is s.buffer c.lay_images.new.buffer long) ∙ omega (arith, long, s.sized, s.buffer.ok.0)
+    omega (arith, s.reserved, fits_now s.at _ s.limits.log_bytes s.least (fits_with s c.args.images.now (OnTrue_at c.if-not-fits.false c.fits.ensures.fit)))
 
 pub invariant_of-self-clause-fits : goal.invariant_of-self-clause-fits
 invariant_of-self-clause-fits c =
@@ -44,10 +38,7 @@ pub returns-clause-keeps : goal.returns-clause-keeps
 returns-clause-keeps c =
     let s = c.args.self.now in
     let images = c.args.images.now in
-    let is = with_items_is s.buffer c.lay_images.new.buffer (c.lay_images.auto.buffer ∙ c.deref_mut.ensures.len) in
-    keeps_more s _ images refl refl refl refl refl (λ laid a.
-    subst (λ (l : List ℕ). AreLaid s.limits c.lay_images.new.waiting.blocks.items l (with_images laid images)) (sym is)
-    (c.lay_images.ensures.laid s.limits laid c.requires.images (subst (λ (l : List ℕ). AreLaid s.limits (waiting_blocks s) l laid) (sym c.deref_mut.ensures.value) a)))
+    keeps_more s _ images refl refl refl refl refl (λ laid a. c.lay_images.ensures.laid s.limits laid c.requires.images a)
 
 pub returns-clause-room : goal.returns-clause-room
 returns-clause-room c = λ n.

@@ -1,4 +1,4 @@
-use Rattle.std.proofs.Common.{◌≡◌, ◌+◌, ◌*◌, length, ap, sym, ◌∙◌, arith}
+use Rattle.std.proofs.Common.{◌∙◌, arith}
 use Rattle.redo_log.proofs.Forcing.{all_forced, then_moments, then_outside, ends_alike, ends_below}
 use Rattle.redo_log.proofs.log.Log.force.Goals as goal
 

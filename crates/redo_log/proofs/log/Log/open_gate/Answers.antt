@@ -1,4 +1,4 @@
-use Rattle.redo_log.proofs.Forcing.{sync_goes, open_goes, open_keeps, gate_outside}
+use Rattle.redo_log.proofs.Forcing.{open_goes, open_keeps, gate_outside}
 use Rattle.std.proofs.Common.{refl}
 use Rattle.redo_log.proofs.log.Log.open_gate.Goals as goal
 

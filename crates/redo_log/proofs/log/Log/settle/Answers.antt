@@ -1,4 +1,4 @@
-use Rattle.std.proofs.Common.{◌+◌, ◌*◌, refl, ap, arith}
+use Rattle.std.proofs.Common.{◌+◌, ◌*◌, refl, ap}
 use Rattle.redo_log.proofs.Forcing.{settle_goes, settle_keeps, sync_outside}
 use Rattle.redo_log.proofs.log.Log.settle.Goals as goal
 
