@@ -1,6 +1,8 @@
 -- The chains of all levels: their first damage, or none.
-use Rattle.std.proofs.Common.{◌≡◌, ◌⊎◌, ℕ, zero, suc, ◌<◌, ◌≤◌, inl, inr, Bool, true, false, List, [], ◌∷◌, ◌++◌, length, get_or, replicate, refl, sym, ap, subst, ◌∙◌, arith, length-append}
-use Rattle.amcheck.proofs.Imports.{Page, IsIn, in_append_cases, Index, index_of, Site, IsOnLevel, IsOfPath, IsDamage, IsSound, IsFirstDamage, ComesBefore, rank, on_way, on_chain, at_child}
+use Rattle.std.proofs.Common.{◌≡◌, ◌⊎◌, ℕ, zero, suc, ◌<◌, ◌≤◌, inl, inr, Bool, true, false, List, [], ◌∷◌, ◌++◌, length, get_or, replicate, Vec, vec_len, refl, sym, ap, subst, ◌∙◌, arith, length-append}
+use Rattle.std.proofs.lemmas.List.{with_items_is}
+use Rattle.std.specs.Vec.{with_items}
+use Rattle.amcheck.proofs.Imports.{Page, IsIn, in_append_cases, Index, index_of, Site, IsOnLevel, IsOfPath, IsDamage, IsSound, IsFirstDamage, ComesBefore, rank, on_way, on_chain, at_child, false≢true}
 use Rattle.amcheck.proofs.Imports.{at_page, nowhere, IsFirstOfChain, IsClearPath, IsFirstOfPath, IsClearLevel, IsFirstOfLevel, IsOfUpper, AreOfUpper, IsMet, stop_blocks, AreStops, Met, Stop}
 use Rattle.amcheck.proofs.Imports.{few_blocks}
 use Rattle.amcheck.proofs.Walked.{stop_of, blocks_length}
@@ -26,6 +28,15 @@ seen_upper ix depth before seen met met' upper kept added = record {
   ];
 }
 
+-- ... if what was seen is kept in a vector, which was lent for the way
+pub seen_upper_in : {Z : Type 0} (ix : Index) (depth : ℕ) (seen : Vec Bool Z) (before after : List Bool) (met met' : Met) → AreOfUpper ix depth seen.items met → before ≡ seen.items
+    → length after ≡ vec_len seen → ((b : ℕ) → get_or after b false ≡ true → (get_or before b false ≡ true) ⊎ IsOnLevel ix depth b)
+    → ((b : ℕ) → IsIn b met'.blocks.items → IsIn b met.blocks.items ⊎ IsOnLevel ix depth b) → AreOfUpper ix (suc depth) (with_items seen after).items met'
+seen_upper_in ix depth seen before after met met' upper lent size kept added =
+    subst (λ (l : List Bool). AreOfUpper ix (suc depth) l met') (sym (with_items_is seen after size))
+    (seen_upper ix depth seen.items after met met' upper
+    (subst (λ (l : List Bool). (b : ℕ) → get_or after b false ≡ true → (get_or l b false ≡ true) ⊎ IsOnLevel ix depth b) lent kept) added)
+
 -- a block that a walk added is at one of its stops
 pub met_on : (ix : Index) (depth : ℕ) (before after : List ℕ) (stops : List Stop) → after ≡ before ++ stop_blocks stops → AreStops ix depth stops → (b : ℕ) → IsIn b after
     → IsIn b before ⊎ IsOnLevel ix depth b
@@ -41,16 +52,13 @@ stops_below met used before stops is some added =
     let size = ap length added ∙ length-append before (stop_blocks stops) in
     omega (arith, few, size, blocks_length stops)
 
-not_so : false ≡ true → ⊥
-not_so e = cc
-
 -- if each level is clear, so is the index without its parents and children
 pub sound_levels : (keys : Bool) (pages : List Page) → ((depth : ℕ) → depth ≤ (index_of pages).top → IsClearLevel (index_of pages) keys depth) → IsSound false keys pages
 sound_levels keys pages clear (on_way depth step deep) number damage = (clear depth deep).way step number damage
 sound_levels keys pages clear (on_chain h) number damage = (clear h.depth h.deep).chain h number refl damage
-sound_levels keys pages clear (at_child h i) number damage = not_so damage.0
-sound_levels keys pages clear (at_page h) number damage = not_so damage.0
-sound_levels keys pages clear (nowhere block) number damage = not_so damage.0
+sound_levels keys pages clear (at_child h i) number damage = false≢true damage.0
+sound_levels keys pages clear (at_page h) number damage = false≢true damage.0
+sound_levels keys pages clear (nowhere block) number damage = false≢true damage.0
 
 module _ (keys : Bool) (pages : List Page) (depth number block : ℕ) (deep : depth ≤ (index_of pages).top) (above : (d : ℕ) → d < depth → IsClearLevel (index_of pages) keys d) where
   abbrev ix : Index
@@ -69,9 +77,9 @@ module _ (keys : Bool) (pages : List Page) (depth number block : ℕ) (deep : de
   way_first f (on_chain h) n damage (inr (same, inl lt)) = (above h.depth lt).chain h n refl damage
   way_first f (on_chain h) n damage (inr (same, inr (is, inl lt))) = omega (arith, lt)
   way_first f (on_chain h) n damage (inr (same, inr (is, inr (one, more)))) = omega (arith, one)
-  way_first f (at_child h i) n damage before = not_so damage.0
-  way_first f (at_page h) n damage before = not_so damage.0
-  way_first f (nowhere b) n damage before = not_so damage.0
+  way_first f (at_child h i) n damage before = false≢true damage.0
+  way_first f (at_page h) n damage before = false≢true damage.0
+  way_first f (nowhere b) n damage before = false≢true damage.0
 
   -- ... and before one of the chain, if the way is clear
   chain_first : (way : IsClearPath ix depth) (f : IsFirstOfChain ix keys depth number block) (other : Site ix) (n : ℕ) → IsDamage false keys other n
@@ -85,9 +93,9 @@ module _ (keys : Bool) (pages : List Page) (depth number block : ℕ) (deep : de
   chain_first way f (on_chain h) n damage (inr (same, inr (is, inr (one, inl lt)))) = f.first h n (is ∙ f.deep) damage (inl lt)
   chain_first way f (on_chain h) n damage (inr (same, inr (is, inr (one, inr (place, inl lt))))) = f.first h n (is ∙ f.deep) damage (inr (place, lt))
   chain_first way f (on_chain h) n damage (inr (same, inr (is, inr (one, inr (place, inr (number_is, end)))))) = end
-  chain_first way f (at_child h i) n damage before = not_so damage.0
-  chain_first way f (at_page h) n damage before = not_so damage.0
-  chain_first way f (nowhere b) n damage before = not_so damage.0
+  chain_first way f (at_child h i) n damage before = false≢true damage.0
+  chain_first way f (at_page h) n damage before = false≢true damage.0
+  chain_first way f (nowhere b) n damage before = false≢true damage.0
 
   -- the first damage of the first level that isn't clear is the first of all
   pub first_level : IsFirstOfLevel ix keys depth number block → IsFirstDamage false keys pages number block
@@ -98,8 +106,8 @@ module _ (keys : Bool) (pages : List Page) (depth number block : ℕ) (deep : de
       by (inr c) = record { site = on_chain c.1.here; is = c.1.is; block_is = c.1.block_is; first = λ other n damage before. chain_first c.0 c.1 other n damage before }
 
 none_there : (n b : ℕ) → get_or (replicate n false) b false ≡ true → ⊥
-none_there zero b e = not_so e
-none_there (suc n) zero e = not_so e
+none_there zero b e = false≢true e
+none_there (suc n) zero e = false≢true e
 none_there (suc n) (suc b) e = none_there n b e
 
 -- at the beginning nothing was seen or met

@@ -1,6 +1,6 @@
 -- The places of the stops are noted one after the other.
 use Rattle.std.proofs.Common.{◌≡◌, ◌≢◌, ℕ, suc, ◌<◌, ◌≤◌, inl, inr, Option, Some, None, List, length, slice_get, slice_set, get_or, sym, ap, subst, ◌∙◌, arith}
-use Rattle.amcheck.proofs.Imports.{cases_eq, get_or-set_same, get_or-set_other, no_link, some_is, PlacesAreOfStops, Stop}
+use Rattle.amcheck.proofs.Imports.{cases_eq, get_or-set_same, get_or-set_other, no_link, PlacesAreOfStops, Stop, same_Some}
 use Rattle.amcheck.proofs.Walked.{stop_inside}
 
 -- ... those before this one
@@ -33,7 +33,7 @@ module _ (stops : List Stop) (places : List (Option ℕ)) (n : ℕ) (s : Stop) (
   there_more : (b k : ℕ) → get_or after b None ≡ Some k → (t : Stop) × (slice_get stops k ≡ Some t) × (t.block ≡ b)
   there_more b k e = elim (cases_eq b s.block) [
     | inl same ↦
-        let k_is : n ≡ k = some_is n k (sym (here b same) ∙ e) in
+        let k_is : n ≡ k = same_Some n k (sym (here b same) ∙ e) in
         (s, subst (λ (j : ℕ). slice_get stops j ≡ Some s) k_is found, sym same)
     | inr differs ↦ to.there b k (sym (elsewhere b differs) ∙ e)
   ]
@@ -43,7 +43,7 @@ module _ (stops : List Stop) (places : List (Option ℕ)) (n : ℕ) (s : Stop) (
     | inl same ↦ absurd (no_link (sym e ∙ here b same))
     | inr differs ↦ elim (cases_eq k n) [
       | inl last ↦
-          let t_is : s ≡ t = some_is s t (sym found ∙ subst (λ (j : ℕ). slice_get stops j ≡ Some t) last there) in
+          let t_is : s ≡ t = same_Some s t (sym found ∙ subst (λ (j : ℕ). slice_get stops j ≡ Some t) last there) in
           λ block. differs (sym block ∙ ap (λ (u : Stop). u.block) (sym t_is))
       | inr before ↦ to.none b k t (omega arith) (sym (elsewhere b differs) ∙ e) there
     ]

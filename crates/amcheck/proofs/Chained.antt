@@ -1,7 +1,7 @@
 -- The damages of a chain, and what is wrong at the stops of a walk along it.
 use Rattle.std.proofs.Common.{◌≡◌, ◌≢◌, ◌⊎◌, ℕ, ◌<◌, ◌≤◌, inl, inr, Bool, Option, Some, None, List, length, slice_get, get_or, refl, sym, ap, subst, ◌∙◌, arith}
 use Rattle.amcheck.proofs.Imports.{cases_lt, slice_get-get_or, LeftContext, Rises, IsUniqueNode, Index, Place, place_at, Here, node, context, IsOnLevel, IsMetBefore, HasNotBeyond, IsAfterRoot}
-use Rattle.amcheck.proofs.Imports.{IsOfChain, no_link, some_is, has_before, IsClearChain, IsFirstOfChain, IsEarlier, context_at, IsStop, AreStops, IsRootAt, IsTooMuch, IsWrong, IsWrongAt, IsBad}
+use Rattle.amcheck.proofs.Imports.{IsOfChain, no_link, has_before, IsClearChain, IsFirstOfChain, IsEarlier, context_at, IsStop, AreStops, IsRootAt, IsTooMuch, IsWrong, IsWrongAt, IsBad, same_Some}
 use Rattle.amcheck.proofs.Imports.{IsFirstPlace, IsLeastNumber, Stop}
 use Rattle.amcheck.proofs.Found.{no_stop, wrong_there}
 use Rattle.amcheck.proofs.Walked.{stop_inside}
@@ -47,7 +47,7 @@ place_same : {ix : Index} (h : Here ix) (depth place : ℕ) (s : LeftContext) (b
     → place_at ix depth place ≡ record { context = s; block = Some b } → (h.block ≡ b) × (context h ≡ s)
 place_same {ix} h depth place s b deep there is =
     let whole : place_at ix h.depth h.place ≡ record { context = s; block = Some b } = (λ i. place_at ix (deep i) (there i)) ∙ is in
-    (some_is h.block b (sym h.is ∙ ap (λ (p : Place). p.block) whole), ap (λ (p : Place). p.context) whole)
+    (same_Some h.block b (sym h.is ∙ ap (λ (p : Place). p.block) whole), ap (λ (p : Place). p.context) whole)
 
 module _ (ix : Index) (keys : Bool) (depth : ℕ) (root : Option ℕ) (stops : List Stop) (deep : depth ≤ ix.top) (root_is : IsRootAt ix depth root) (are : AreStops ix depth stops) where
   -- a damage at a stop is wrong there
@@ -64,7 +64,7 @@ module _ (ix : Index) (keys : Bool) (depth : ℕ) (root : Option ℕ) (stops : L
           let t = get_or stops m.earlier no_stop in
           let first : slice_get stops m.earlier ≡ Some t = slice_get-get_or stops m.earlier no_stop (omega arith) in
           let block : t.block ≡ h.block =
-          some_is t.block h.block (sym (ap (λ (p : Place). p.block) (are.placed m.earlier t first)) ∙ subst (λ (d : ℕ). (place_at ix d m.earlier).block ≡ Some h.block) same m.same) in
+          same_Some t.block h.block (sym (ap (λ (p : Place). p.block) (are.placed m.earlier t first)) ∙ subst (λ (d : ℕ). (place_at ix d m.earlier).block ≡ Some h.block) same m.same) in
           are.once m.earlier h.place t s m.before first there (block ∙ told.0)
 
       by : IsOfChain keys h n → IsWrong keys (ix.at s.block) root (context_at ix.at s) s.block n

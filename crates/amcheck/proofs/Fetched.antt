@@ -1,7 +1,7 @@
 -- What is written and forced while all pages are read.
-use Rattle.std.proofs.Common.{◌≡◌, ◌⊎◌, ℕ, zero, suc, ◌<◌, ◌≤◌, Bool, true, false, List, [], ◌∷◌, ◌++◌, length, inl, inr, refl, sym, ap, ◌∙◌, arith, append_assoc}
+use Rattle.std.proofs.Common.{◌≡◌, ℕ, zero, suc, ◌<◌, ◌≤◌, true, false, List, [], ◌∷◌, ◌++◌, length, inl, inr, refl, sym, ap, ◌∙◌, arith, append_assoc}
 use Rattle.std.proofs.lemmas.List.Elements.{All-cons}
-use Rattle.amcheck.proofs.Imports.{All, cases_lt, append-nil, Memory, is_block_among, FrameCosts, TakesFrames, Backing, blocks_below, without_first, IsRestBut}
+use Rattle.amcheck.proofs.Imports.{All, cases_lt, append-nil, Memory, is_block_among, FrameCosts, TakesFrames, Backing, blocks_below, without_first, IsRestBut, cases_Bool}
 
 -- the blocks below a number are the first of those below a greater one
 pub below_split : (n k : ℕ) → k ≤ n → (rest : List ℕ) × (blocks_below n ≡ blocks_below k ++ rest)
@@ -23,10 +23,6 @@ without_kept pinned k x xs among = rw among refl
 without_gone : (pinned : List ℕ) (k x : ℕ) (xs : List ℕ) → is_block_among pinned x ≡ false → without_first pinned (suc k) (x ∷ xs) ≡ without_first pinned k xs
 without_gone pinned k x xs not = rw not refl
 
-bool_cases : (b : Bool) → (b ≡ true) ⊎ (b ≡ false)
-bool_cases true = inl refl
-bool_cases false = inr refl
-
 -- some first ones, and then some first ones of the rest, are some first ones
 abbrev Twice : List ℕ → List ℕ → ℕ → ℕ → Type 0
 Twice pinned xs k j = (count : ℕ) × (without_first pinned j (without_first pinned k xs) ≡ without_first pinned count xs)
@@ -44,7 +40,7 @@ rest_twice : (pinned xs : List ℕ) (k j : ℕ) → Twice pinned xs k j
 rest_twice pinned xs zero j = (j, refl)
 rest_twice pinned [] (suc k) zero = (0, refl)
 rest_twice pinned [] (suc k) (suc j) = (0, refl)
-rest_twice pinned (x ∷ xs) (suc k) j = elim (bool_cases (is_block_among pinned x)) [
+rest_twice pinned (x ∷ xs) (suc k) j = elim (cases_Bool (is_block_among pinned x)) [
   | inl among ↦ twice_kept pinned xs k x among (λ (i : ℕ). rest_twice pinned xs k i) j
   | inr not ↦
       let early = rest_twice pinned xs k j in

@@ -1,16 +1,12 @@
 -- What the search for the first damage of the chains comes to.
-use Rattle.std.proofs.Common.{◌≡◌, ℕ, ◌<◌, ◌≤◌, inl, inr, Bool, true, false, Option, Some, None, List, [], ◌∷◌, length, slice_get, refl, sym, ap, subst, ◌∙◌, arith}
-use Rattle.damages.specs.Levels as levels
+use Rattle.std.proofs.Common.{◌≡◌, ℕ, ◌<◌, ◌≤◌, inl, inr, Bool, false, Option, Some, None, List, [], ◌∷◌, length, slice_get, refl, sym, ap, subst, ◌∙◌, arith}
 use Rattle.amcheck.proofs.Imports.{slice_get_within, IsSome, Result, Ok, Err, IfOk, IfErr, OnOk, Fault, IsBlock, IsPage, IsOfKind, Items, Meta, Entries, Downlinks, Page, Node, nodes_of, node_from}
-use Rattle.amcheck.proofs.Imports.{node_of, IsTree, index_of, or_block, Site, IsDamage, IsSound, IsFirstDamage, ComesBefore, rank, on_way, on_chain, at_child, at_page, nowhere, page_there}
+use Rattle.amcheck.proofs.Imports.{node_of, IsTree, index_of, or_block, Site, IsDamage, IsSound, IsFirstDamage, ComesBefore, rank, on_way, on_chain, at_child, at_page, nowhere, page_there, false≢true}
 use Rattle.amcheck.proofs.Imports.{NamesRoot, StandAtTheirBlocks, IsAnswer, IsReport, CheckFault, Damaged, Refused, Damage, Report}
 
 none_of_length : (pages : List Page) → length pages ≡ 0 → pages ≡ []
 none_of_length [] e = refl
 none_of_length (page ∷ pages) e = absurd (omega arith)
-
-not_so : false ≡ true → ⊥
-not_so e = cc
 
 -- without a metapage the root is block 0, which is on no level
 nothing_there : (keys : Bool) → IsFirstDamage false keys [] 1 0
@@ -28,9 +24,9 @@ nothing_there keys = record { site = on_way 0 0 (omega arith); is = inl (refl, �
     first (on_chain h) n damage (inr (same, inl lt)) = omega (arith, lt)
     first (on_chain h) n damage (inr (same, inr (is, inl lt))) = omega (arith, lt)
     first (on_chain h) n damage (inr (same, inr (is, inr (one, more)))) = omega (arith, one)
-    first (at_child h i) n damage before = not_so damage.0
-    first (at_page h) n damage before = not_so damage.0
-    first (nowhere b) n damage before = not_so damage.0
+    first (at_child h i) n damage before = false≢true damage.0
+    first (at_page h) n damage before = false≢true damage.0
+    first (nowhere b) n damage before = false≢true damage.0
 
 pub no_pages : (keys : Bool) (pages : List Page) (number block : ℕ) → length pages ≡ 0 → number ≡ 1 → block ≡ 0 → IsFirstDamage false keys pages number block
 no_pages keys pages number block none one zero_is =
@@ -92,11 +88,8 @@ never_rootless pages stand some none =
     by page.0.right (sym (ap (λ (n : Node). n.right) (ap node_from page.1)) ∙ none) (first_is_meta pages page.0 stand page.1).1
   where
     by : (o : Option ℕ) → o ≡ None → IsSome o → ⊥
-    by None is some = not_so some
+    by None is some = false≢true some
     by (Some b) is some = cc
-
-pub tree_back : (pages : List Page) → levels.LevelsHaveTree pages → IsTree pages
-tree_back pages t = record { meta = t.meta; meta_at = t.meta_at; root = t.root; names_root = t.names_root; chain = t.chain; is = t.is }
 
 -- what is told of the judgement
 pub answer_told : (parents keys : Bool) (pages : List Page) (judged : Result Report Damage) (result : Result Report CheckFault)

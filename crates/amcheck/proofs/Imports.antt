@@ -1,8 +1,8 @@
 -- What several proofs of this crate import, passed on from one place. Declares nothing.
 pub use Rattle.rayon.specs.Lists.{first_true}
-pub use Rattle.std.proofs.lemmas.Bool.{cases_eq, cases_lt, le-ltb, lt-leb, lt-ltb, ltb-true}
+pub use Rattle.std.proofs.lemmas.Bool.{cases_Bool, cases_eq, cases_lt, false≢true, le-ltb, lt-leb, lt-ltb, ltb-true}
 pub use Rattle.std.proofs.lemmas.List.{append-nil, get_or-set_other, get_or-set_same, length-replicate, length-set, take_all}
-pub use Rattle.std.proofs.lemmas.Option.{slice_get-get_or, slice_get_past, slice_get_within}
+pub use Rattle.std.proofs.lemmas.Option.{same_Some, slice_get-get_or, slice_get_past, slice_get_within}
 pub use Rattle.std.specs.List.{AllByRecursion, AllZip, Contains, range_with_len}
 pub use Rattle.std.specs.Prelude.{All, Err, IfErr, IfOk, IfSome, IsSome, Ok, OnOk, Result}
 pub use Rattle.index_model.specs.Faults.{HasCause}
@@ -31,7 +31,7 @@ pub use Rattle.tree_shape.specs.Chains.{AreDistinct, IsBeyond, IsIn, LeftContext
 pub use Rattle.tree_shape.specs.KeyPages.{AreUnique, IsKeyLink, IsUniqueNode, KeyBefore}
 pub use Rattle.tree_shape.specs.Nodes.{Node, links_of, no_node, node_from, node_of, nodes_of}
 pub use Rattle.tree_acts.specs.TheoremTree.{IsTree}
-pub use Rattle.damages.proofs.Decided.{bool_so, no_link, on_level_so, some_is}
+pub use Rattle.damages.proofs.Decided.{bool_so, no_link, on_level_so}
 pub use Rattle.damages.proofs.Fitting.{page_there}
 pub use Rattle.damages.proofs.KeysJudged.{more, without_keys}
 pub use Rattle.damages.proofs.Walks.{has_before}
@@ -44,16 +44,18 @@ pub use Rattle.amcheck.specs.Chains.{IsClearChain, IsFirstOfChain}
 pub use Rattle.amcheck.specs.Checks.{IsCheckFault, causes_of_checked}
 pub use Rattle.amcheck.specs.Downlinks.{AreBelow, DownlinksAreNoted, HasExtra, HasOtherLow, HasWrongBound, IsExtra, IsOff, IsSkipped, IsSkippedStop, IsWrongAmong, LacksLink, LeadsBefore}
 pub use Rattle.amcheck.specs.Ends.{IsChainEnd, IsEarlier}
+pub use Rattle.amcheck.specs.JudgedPages.{JudgesPages}
 pub use Rattle.amcheck.specs.LevelDamages.{AreOfUpper, IsClearLevel, IsFirstOfLevel, IsOfUpper}
 pub use Rattle.amcheck.specs.Levels.{IsNotMet, NamesRoot}
 pub use Rattle.amcheck.specs.Marks.{IsMet}
 pub use Rattle.amcheck.specs.PageRooms.{HasPageRoom}
 pub use Rattle.amcheck.specs.ParentDamages.{AreChildrenBelow, AreMarked, IsClearAt, IsFirstAt, IsFirstChild, IsFirstOfPage}
 pub use Rattle.amcheck.specs.Places.{IsNoneOrBeyond, StandAtTheirBlocks}
-pub use Rattle.amcheck.specs.Reading.{IsRestBut, blocks_below, without_first}
+pub use Rattle.amcheck.specs.Reading.{AreFetched, IsRestBut, PagesAreRead, blocks_below, without_first}
 pub use Rattle.amcheck.specs.Reports.{IsReport, count_entries_on, one_if_deleted, one_if_half_dead, one_if_incomplete, report_of, sum_of_all}
 pub use Rattle.amcheck.specs.Searching.{AreSearchable}
 pub use Rattle.amcheck.specs.Sketches.{HoldSketches, HasGrown, HoldsSketch, IsSketch, least_bound, links_at, second_bound}
+pub use Rattle.amcheck.specs.Sound.{HasLevelsFor, IsSoundTree}
 pub use Rattle.amcheck.specs.Stops.{AreStops, HasWrongItem, IsBad, IsFirstPlace, IsLeastNumber, IsRootAt, IsStop, IsTooMuch, IsWrong, IsWrongAt, StopsAreInUse, high_at, context_at, stop_blocks}
 pub use Rattle.amcheck.specs.Ways.{IsClearPath, IsFirstOfPath}
 pub use Rattle.amcheck.specs.WrongSketches.{IsWrongSketch}

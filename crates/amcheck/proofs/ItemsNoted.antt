@@ -1,6 +1,6 @@
 -- The downlinks of a page, one after the other.
 use Rattle.std.proofs.Common.{◌≡◌, ◌⊎◌, ◌↔◌, ℕ, zero, suc, ◌<◌, ◌≤◌, inl, inr, Bool, true, false, not, IsTrue, Option, Some, None, List, [], ◌∷◌, length, slice_get, slice_set, get_or, refl, sym, ap, subst, ◌∙◌, arith}
-use Rattle.amcheck.proofs.Imports.{cases_eq, get_or-set_same, get_or-set_other, Bound, Downlink, Node, from_low, Index, IsOnLevel, no_link, some_is, IsStopOf, HasNoStop, HaveBlocksOnce, IsOff}
+use Rattle.amcheck.proofs.Imports.{cases_eq, get_or-set_same, get_or-set_other, Bound, Downlink, Node, from_low, Index, IsOnLevel, no_link, IsStopOf, HasNoStop, HaveBlocksOnce, IsOff, same_Some}
 use Rattle.amcheck.proofs.Imports.{HasOtherLow, HasWrongBound, IsSkipped, LacksLink, IsSkippedStop, LeadsBefore, IsExtra, HasExtra, DownlinksAreNoted, IsWrongAmong, high_at, IsLeastNumber, Stop}
 
 pub length-from_low : (low : Option Bound) (links : List Downlink) → length (from_low low links) ≡ length links
@@ -9,7 +9,7 @@ length-from_low low (i ∷ is) = refl
 
 pub low_first : (low : Option Bound) (links : List Downlink) (link : Downlink) → slice_get links 0 ≡ Some link → slice_get (from_low low links) 0 ≡ Some (record { bound = low; child = link.child })
 low_first low [] link e = absurd (no_link e)
-low_first low (i ∷ is) link e = ap (λ (d : Downlink). Some (record { bound = low; child = d.child })) (some_is i link e)
+low_first low (i ∷ is) link e = ap (λ (d : Downlink). Some (record { bound = low; child = d.child })) (same_Some i link e)
 
 pub low_after : (low : Option Bound) (links : List Downlink) (at : ℕ) → 0 < at → slice_get (from_low low links) at ≡ slice_get links at
 low_after low [] at pos = refl
@@ -28,7 +28,7 @@ item_inside low links item link e = (let r = link_inside (from_low low links) it
 pub one_stop : (stops : List Stop) (b : ℕ) (s t : Stop) → HaveBlocksOnce stops → IsStopOf stops b s → IsStopOf stops b t → s ≡ t
 one_stop stops b s t once f g =
     let same : f.place ≡ g.place = once f.place g.place s t f.there g.there (f.is ∙ sym g.is) in
-    some_is s t (sym f.there ∙ subst (λ (k : ℕ). slice_get stops k ≡ Some t) (sym same) g.there)
+    same_Some s t (sym f.there ∙ subst (λ (k : ℕ). slice_get stops k ≡ Some t) (sym same) g.there)
 
 pub no_stop_of : (stops : List Stop) (b : ℕ) (s : Stop) → HasNoStop stops b → IsStopOf stops b s → ⊥
 no_stop_of stops b s none f = none f.place s f.there f.is
@@ -76,7 +76,7 @@ off_here ix depth links n link there off before = record { item = n; link = link
 pub one_more : (P : Downlink → Type 0) (links : List Downlink) (n m : ℕ) (link : Downlink) → slice_get links n ≡ Some link → P link → m ≡ suc n
     → ((j : ℕ) (l : Downlink) → j < n → slice_get links j ≡ Some l → P l) → (j : ℕ) (l : Downlink) → j < m → slice_get links j ≡ Some l → P l
 one_more P links n m link there holds is before j l lt found = elim (cases_eq j n) [
-  | inl same ↦ subst P (some_is link l (sym there ∙ subst (λ (k : ℕ). slice_get links k ≡ Some l) same found)) holds
+  | inl same ↦ subst P (same_Some link l (sym there ∙ subst (λ (k : ℕ). slice_get links k ≡ Some l) same found)) holds
   | inr differs ↦ before j l (omega arith) found
 ]
 
@@ -121,7 +121,7 @@ module _ (at : ℕ → Node) (stops : List Stop) (links : List Downlink) (n : �
   noted_more m inside not is = subst (λ (k : ℕ). HasNotedTo at stops links k before (slice_set after link.child true)) (sym is) (record {
     right = λ j l lt found. elim (cases_eq j n) [
       | inl same ↦
-          let l_is : link ≡ l = some_is link l (sym there ∙ subst (λ (k : ℕ). slice_get links k ≡ Some l) same found) in
+          let l_is : link ≡ l = same_Some link l (sym there ∙ subst (λ (k : ℕ). slice_get links k ≡ Some l) same found) in
           λ wrong. not_now not (subst (λ (k : ℕ). IsExtra at stops before link.child ⊎ LeadsBefore links k link.child) same
           (subst (λ (d : Downlink). IsExtra at stops before d.child ⊎ LeadsBefore links j d.child) (sym l_is) wrong))
       | inr differs ↦ so_far.right j l (omega arith) found
@@ -137,7 +137,7 @@ module _ (at : ℕ → Node) (stops : List Stop) (links : List Downlink) (n : �
       kept = λ b e. set_keeps b (so_far.noted.kept b e);
       new = λ b w. elim (cases_eq w.earlier n) [
         | inl last ↦
-            let l_is : link ≡ w.link = some_is link w.link (sym there ∙ subst (λ (k : ℕ). slice_get links k ≡ Some w.link) last w.there) in
+            let l_is : link ≡ w.link = same_Some link w.link (sym there ∙ subst (λ (k : ℕ). slice_get links k ≡ Some w.link) last w.there) in
             let b_is : b ≡ link.child = sym w.leads ∙ ap (λ (d : Downlink). d.child) (sym l_is) in
             ap (λ (c : ℕ). get_or (slice_set after link.child true) c false) b_is ∙ get_or-set_same after link.child true false inside
         | inr earlier ↦ let lt = w.before in set_keeps b (so_far.noted.new b (record { earlier = w.earlier; link = w.link; before = omega arith; there = w.there; leads = w.leads }))

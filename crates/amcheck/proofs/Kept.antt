@@ -2,7 +2,7 @@
 use Rattle.std.proofs.Common.{◌≡◌, ◌⊎◌, ℕ, zero, suc, ◌+◌, ◌<◌, ◌≤◌, inl, inr, Bool, true, false, drop, List, [], ◌∷◌, ◌++◌, Option, Some, None, length, length-append, slice_get, refl, sym, ap, subst, ◌∙◌, arith}
 use Rattle.tree_shape.specs.LinkPlaces.{HasLinks}
 use Rattle.amcheck.proofs.Imports.{slice_get_within, slice_get_past, IfSome, Items, Meta, Entries, Downlinks, Page, PageState, Live, HalfDead, Deleted, Node, node_of, node_from, nodes_of, no_node}
-use Rattle.amcheck.proofs.Imports.{links_of, no_link, some_is, page_there, sum_of_all, count_entries_on, one_if_half_dead, one_if_deleted, one_if_incomplete, IsSketch, HoldsSketch, HoldSketches}
+use Rattle.amcheck.proofs.Imports.{links_of, no_link, page_there, sum_of_all, count_entries_on, one_if_half_dead, one_if_deleted, one_if_incomplete, IsSketch, HoldsSketch, HoldSketches, same_Some}
 use Rattle.amcheck.proofs.Imports.{links_at, HasGrown, Sketch}
 
 get_left : {A : Type 0} (xs ys : List A) (k : ℕ) → k < length xs → slice_get (xs ++ ys) k ≡ slice_get xs k
@@ -16,7 +16,7 @@ get_last (y ∷ xs) x = get_last xs x
 
 -- an item of a list with one more is one of the list, or that one
 more_cases : {A : Type 0} (xs : List A) (x y : A) (k : ℕ) → slice_get (xs ++ x ∷ []) k ≡ Some y → (slice_get xs k ≡ Some y) ⊎ ((k ≡ length xs) × (x ≡ y))
-more_cases [] x y zero e = inr (refl, some_is x y e)
+more_cases [] x y zero e = inr (refl, same_Some x y e)
 more_cases [] x y (suc k) e = absurd (no_link e)
 more_cases (z ∷ xs) x y zero e = inl e
 more_cases (z ∷ xs) x y (suc k) e = elim (more_cases xs x y k e) [
@@ -109,7 +109,7 @@ none_behind pages whole sketches block kept le = ap node_from (slice_get_past pa
 
 pub inside_of : (whole : List Page) (o : Option ℕ) → IfSome o (λ place. place < length whole) → (place : ℕ) → o ≡ Some place → place < length whole
 inside_of whole None inside place is = absurd (no_link is)
-inside_of whole (Some k) inside place is = subst (λ (n : ℕ). n < length whole) (some_is k place is) inside
+inside_of whole (Some k) inside place is = subst (λ (n : ℕ). n < length whole) (same_Some k place is) inside
 
 -- a sum from a page on is that page's number, and the sum after it
 pub total_drop : (number : Page → ℕ) (pages : List Page) (k : ℕ) (page : Page) → slice_get pages k ≡ Some page → sum_of_all number (drop k pages) ≡ number page + sum_of_all number (drop (k + 1) pages)
@@ -117,7 +117,7 @@ total_drop number pages k page is = by pages k is ∙ ap (λ (n : ℕ). number p
   where
     by : (pages : List Page) (k : ℕ) → slice_get pages k ≡ Some page → sum_of_all number (drop k pages) ≡ number page + sum_of_all number (drop (suc k) pages)
     by [] k is = absurd (no_link is)
-    by (p ∷ pages) zero is = ap (λ (q : Page). number q + sum_of_all number pages) (some_is p page is)
+    by (p ∷ pages) zero is = ap (λ (q : Page). number q + sum_of_all number pages) (same_Some p page is)
     by (p ∷ pages) (suc k) is = by pages k is
 
 pub one_half_dead : (state : PageState) → one_if_half_dead state ≤ 1

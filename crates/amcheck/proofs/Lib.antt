@@ -19,3 +19,4 @@ pub mod ParentDamages
 pub mod ChainDamages
 pub mod FirstDamages
 pub mod Fetched
+pub mod JudgedPages

@@ -1,17 +1,14 @@
 -- The damages of parents and children, and what is wrong at the stops of all chains.
-use Rattle.std.proofs.Common.{◌≡◌, ◌≢◌, ◌⊎◌, ℕ, zero, suc, ◌+◌, ◌<◌, ◌≤◌, inl, inr, Bool, true, false, Some, None, List, [], ◌∷◌, length, slice_get, get_or, refl, sym, ap, subst, ◌∙◌, arith}
+use Rattle.std.proofs.Common.{◌≡◌, ◌≢◌, ◌⊎◌, ℕ, zero, suc, ◌+◌, ◌<◌, ◌≤◌, inl, inr, Bool, true, false, true≢false, Some, None, List, [], ◌∷◌, length, slice_get, get_or, refl, sym, ap, subst, ◌∙◌, arith}
 use Rattle.damages.specs.Damages as damages
 use Rattle.amcheck.proofs.Imports.{cases_eq, cases_lt, Downlink, Page, HalfDead, Node, nodes_of, LeftContext, from_low, IsIn, Index, index_of, Place, place_at, Here, Item, Site, node, context}
 use Rattle.amcheck.proofs.Imports.{IsOnLevel, IsOnChain, IsUnlinked, IsSecond, IsOfParents, IsDamage, IsSound, IsFirstDamage, ComesBefore, rank, on_way, on_chain, at_child, at_page, nowhere}
-use Rattle.amcheck.proofs.Imports.{no_link, some_is, bool_so, on_level_so, AreAllStops, IsAt, HaveBlocksOnce, IsStopOf, HasNoStop, IsOff, AreBelow, HasWrongBound, IsSkipped, LacksLink}
+use Rattle.amcheck.proofs.Imports.{no_link, bool_so, on_level_so, AreAllStops, IsAt, HaveBlocksOnce, IsStopOf, HasNoStop, IsOff, AreBelow, HasWrongBound, IsSkipped, LacksLink, false≢true, same_Some}
 use Rattle.amcheck.proofs.Imports.{IsSkippedStop, LeadsBefore, IsExtra, HasExtra, DownlinksAreNoted, IsWrongAmong, IsNotMet, AreChildrenBelow, IsClearAt, IsFirstChild, IsFirstOfPage, IsFirstAt}
 use Rattle.amcheck.proofs.Imports.{AreMarked, high_at, context_at, stop_blocks, IsStop, IsLeastNumber, StopsAreInUse, Stop}
 use Rattle.amcheck.proofs.AllStops.{HasItsStop, Indexed, indexed, stop_moved}
 use Rattle.amcheck.proofs.ItemsNoted.{item_inside}
 use Rattle.amcheck.proofs.Walked.{stop_inside, stop_of}
-
-differ : true ≡ false → ⊥
-differ e = cc
 
 -- the numbers of parents and children
 number_large : {ix : Index} (h : Here ix) (n : ℕ) → IsOfParents h n → 1 < n
@@ -21,7 +18,7 @@ number_large h n (inr (inr a)) = (let k = a.0 in omega (arith, k))
 
 in_blocks : (ss : List Stop) (k : ℕ) (s : Stop) → slice_get ss k ≡ Some s → IsIn s.block (stop_blocks ss)
 in_blocks [] k s e = absurd (no_link e)
-in_blocks (x ∷ ss) zero s e = inl (ap (λ (t : Stop). t.block) (sym (some_is x s e)))
+in_blocks (x ∷ ss) zero s e = inl (ap (λ (t : Stop). t.block) (sym (same_Some x s e)))
 in_blocks (x ∷ ss) (suc k) s e = inr (in_blocks ss k s e)
 
 -- what comes before: an earlier level, or an earlier place of the same one
@@ -32,9 +29,6 @@ Precedes o h = (o.depth < h.depth) ⊎ ((o.depth ≡ h.depth) × (o.place < h.pl
 pub with_parents : (keys : Bool) (pages : List Page) (number block : ℕ) → IsFirstDamage false keys pages number block → IsFirstDamage true keys pages number block
 with_parents keys pages number block f = by f.site f.is f.block_is f.first
   where
-    not_so : false ≡ true → ⊥
-    not_so e = cc
-
     by : (site : Site (index_of pages)) → IsDamage false keys site number → block ≡ damages.site_block site
         → ((other : Site (index_of pages)) (n : ℕ) → IsDamage false keys other n → ComesBefore (rank other n) (rank site number) → ⊥) → IsFirstDamage true keys pages number block
     by (on_way d s e) damage is first = record { site = on_way d s e; is = damage; block_is = is; first = later }
@@ -59,9 +53,9 @@ with_parents keys pages number block f = by f.site f.is f.block_is f.first
         later (at_page h) n found (inr (same, more)) = omega (arith, same)
         later (nowhere b) n found (inl lt) = omega (arith, lt)
         later (nowhere b) n found (inr (same, more)) = omega (arith, same)
-    by (at_child h i) damage is first = absurd (not_so damage.0)
-    by (at_page h) damage is first = absurd (not_so damage.0)
-    by (nowhere b) damage is first = absurd (not_so damage.0)
+    by (at_child h i) damage is first = absurd (false≢true damage.0)
+    by (at_page h) damage is first = absurd (false≢true damage.0)
+    by (nowhere b) damage is first = absurd (false≢true damage.0)
 
 module _ (pages : List Page) (stops : List Stop) (all : AreAllStops (index_of pages) (suc (index_of pages).top) stops) (sound : IsSound false false pages) where
   abbrev ix : Index
@@ -129,7 +123,7 @@ module _ (pages : List Page) (stops : List Stop) (all : AreAllStops (index_of pa
       }
 
   block_at : (h : Here ix) (k : ℕ) (a : IsAt stops k h) → h.block ≡ a.stop.block
-  block_at h k a = some_is h.block a.stop.block (sym h.is ∙ ap (λ (p : Place). p.block) a.is)
+  block_at h k a = same_Some h.block a.stop.block (sym h.is ∙ ap (λ (p : Place). p.block) a.is)
 
   index_at : (h : Here ix) (k : ℕ) → IsAt stops k h → (idx.depth_of k ≡ h.depth) × (idx.place_of k ≡ h.place)
   index_at h k a =
@@ -215,10 +209,10 @@ module _ (pages : List Page) (stops : List Stop) (all : AreAllStops (index_of pa
     links = from_low (high_at at s.low_at) (at s.block).links
 
     is_stop : (h : Here ix) → IsAt stops k h → IsStop ix h.depth h.place s
-    is_stop h a = subst (IsStop ix h.depth h.place) (some_is a.stop s (sym a.there ∙ there)) a.is
+    is_stop h a = subst (IsStop ix h.depth h.place) (same_Some a.stop s (sym a.there ∙ there)) a.is
 
     block_is : (h : Here ix) → IsAt stops k h → h.block ≡ s.block
-    block_is h a = some_is h.block s.block (sym h.is ∙ ap (λ (p : Place). p.block) (is_stop h a))
+    block_is h a = same_Some h.block s.block (sym h.is ∙ ap (λ (p : Place). p.block) (is_stop h a))
 
     context_is : (h : Here ix) → IsAt stops k h → context h ≡ context_at at s
     context_is h a = ap (λ (p : Place). p.context) (is_stop h a)
@@ -309,7 +303,7 @@ module _ (pages : List Page) (stops : List Stop) (all : AreAllStops (index_of pa
         λ above i lt same.
             let marked = marks.all s.block
             (record { page = above; item = i; index = (index above).index; before = index_before above h k a (inl lt); at = at_of above; leads = same ∙ block_is h a }) in
-            differ (sym marked ∙ w.none),
+            true≢false (sym marked ∙ w.none),
       )
 
       lacks_link : (h : Here ix) → IsAt stops k h → 0 < h.depth → (IsUnlinked h → ⊥) → ((above : Here ix) (i : Item above) → above.depth < h.depth → i.link.child ≢ h.block)

@@ -1,7 +1,7 @@
 -- Pages are read one after the other.
 use Rattle.std.proofs.Common.{◌≡◌, ℕ, zero, suc, ◌+◌, ◌<◌, ◌≤◌, Bool, true, false, not, ◌&&◌, ◌||◌, ◌==◌, nat_lt, nat_le, List, [], ◌∷◌, ◌++◌, length, take, slice_get, Some, ◌≢◌, refl, sym, ap, subst, ◌∙◌, arith}
 use Rattle.page_action.specs.Causes.{causes_of_read, count_apart, pinned_blocks}
-use Rattle.amcheck.proofs.Imports.{ltb-true, lt-ltb, HasCause, Fault, NoMemory, Io, Stopped, NoFrame, PageDamaged, has_pin, KeepsRoom, State, Backing, IsLater, causes_of_checked}
+use Rattle.amcheck.proofs.Imports.{ltb-true, lt-ltb, HasCause, Fault, NoMemory, Io, Stopped, NoFrame, PageDamaged, has_pin, KeepsRoom, State, Backing, IsLater, causes_of_checked, false≢true}
 
 pub kept_on : (st : State) (first mid last : Backing) → KeepsRoom st first mid → KeepsRoom st mid last → IsLater first mid → mid.durable ≤ st.acts → KeepsRoom st first last
 kept_on st first mid last a b later few = record {
@@ -43,9 +43,6 @@ take_get xs i x found = by xs i found ∙ ap (λ (n : ℕ). take n xs) (let e : 
     by (y ∷ ys) zero {x} found = (let same : y ≡ x = cc in ap (λ z. z ∷ []) (sym same))
     by (y ∷ ys) (suc i) found = ap (λ l. y ∷ l) (by ys i found)
 
-not_so : false ≡ true → ⊥
-not_so e = cc
-
 -- a read takes no memory
 pub never_memory : (st : State) (old new : Backing) (block : ℕ) (fault : Fault) → HasCause (causes_of_read st old new block) fault → fault ≢ NoMemory
-never_memory st old new block fault h same = not_so (subst (HasCause (causes_of_read st old new block)) same h)
+never_memory st old new block fault h same = false≢true (subst (HasCause (causes_of_read st old new block)) same h)

@@ -2,7 +2,7 @@
 use Rattle.std.proofs.Common.{◌≡◌, ◌⊎◌, ℕ, zero, suc, ◌<◌, inl, inr, Some, None, List, [], ◌∷◌, ◌++◌, length, length-append, append_assoc, slice_get, refl, sym, ap, subst, ◌∙◌, arith}
 use Rattle.damages.proofs.Places.{one_place}
 use Rattle.amcheck.specs.declared.walks.End.TheVariants as ends
-use Rattle.amcheck.proofs.Imports.{Page, nodes_of, past, IsIn, AreDistinct, in_append_cases, apart_back, Index, index_of, Place, next_place, place_at, IsOnLevel, no_link, some_is, IsMet, context_at}
+use Rattle.amcheck.proofs.Imports.{Page, nodes_of, past, IsIn, AreDistinct, in_append_cases, apart_back, Index, index_of, Place, next_place, place_at, IsOnLevel, no_link, IsMet, context_at, same_Some}
 use Rattle.amcheck.proofs.Imports.{stop_blocks, IsStop, AreStops, IsChainEnd, IsEarlier, Met, Stop, few_blocks}
 
 pub blocks_more : (ss : List Stop) (s : Stop) → stop_blocks (ss ++ s ∷ []) ≡ stop_blocks ss ++ s.block ∷ []
@@ -15,7 +15,7 @@ blocks_length (x ∷ ss) = (let r = blocks_length ss in omega (arith, r))
 
 block_there : (ss : List Stop) (k : ℕ) (s : Stop) → slice_get ss k ≡ Some s → slice_get (stop_blocks ss) k ≡ Some s.block
 block_there [] k s e = absurd (no_link e)
-block_there (x ∷ ss) zero s e = ap (λ (t : Stop). Some t.block) (some_is x s e)
+block_there (x ∷ ss) zero s e = ap (λ (t : Stop). Some t.block) (same_Some x s e)
 block_there (x ∷ ss) (suc k) s e = block_there ss k s e
 
 -- a block of these stops is one of them
@@ -38,7 +38,7 @@ stop_inside (x ∷ ss) (suc k) s e = (let r = stop_inside ss k s e in omega arit
 
 -- a stop of a list with one more is one of the list, or that one
 more_cases : (ss : List Stop) (t : Stop) (k : ℕ) (s : Stop) → slice_get (ss ++ t ∷ []) k ≡ Some s → (slice_get ss k ≡ Some s) ⊎ ((k ≡ length ss) × (t ≡ s))
-more_cases [] t zero s e = inr (refl, some_is t s e)
+more_cases [] t zero s e = inr (refl, same_Some t s e)
 more_cases [] t (suc k) s e = absurd (no_link e)
 more_cases (x ∷ ss) t zero s e = inl e
 more_cases (x ∷ ss) t (suc k) s e = elim (more_cases ss t k s e) [

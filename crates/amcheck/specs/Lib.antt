@@ -19,3 +19,4 @@ pub mod Answers
 pub mod Sound
 pub mod Searching
 pub mod Laws
+pub mod JudgedPages

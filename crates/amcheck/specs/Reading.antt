@@ -10,10 +10,10 @@ use Rattle.amcheck.specs.declared.reading.Room.{Room}
 
 -- there is room to check `used` pages, and no block was seen or met
 pub record RoomIsReady (room : Room) (used : ℕ) : Type 0 where
-  pub met : IsMet room.met used
-  pub none : room.met.blocks.items ≡ []
-  pub seen : room.seen.items ≡ replicate used false
-  pub stops : used ≤ vec_capacity room.stops
+  pub met : IsMet room.walks.met used
+  pub none : room.walks.met.blocks.items ≡ []
+  pub seen : room.walks.seen.items ≡ replicate used false
+  pub stops : used ≤ vec_capacity room.walks.stops
   pub chains : used ≤ vec_capacity room.chains
   pub no_stops : room.chains.items ≡ []
   pub places : room.places.items ≡ replicate used None

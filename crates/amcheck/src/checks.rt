@@ -1,16 +1,10 @@
 //! The checks of a store's pages, in one thread and in many.
 
-ghost use Rattle.std.specs.Prelude.{◌≡◌, true, false, Err, IfOk, IfErr, OnOk};
-ghost use Rattle.latch_table.specs.Holdings.{pinned_blocks};
-ghost use Rattle.page_action.specs.Room.{KeepsRoom};
-ghost use Rattle.page_action.specs.States.{Continues};
+ghost use Rattle.std.specs.Prelude.{◌≡◌, true, false, OnOk};
 ghost use Rattle.tree_shape.specs.Nodes.{nodes_of};
 ghost use Rattle.tree_acts.specs.TheoremKeys.{IsTreeFor};
-ghost use Rattle.amcheck.specs.Answers.{IsAnswer};
-ghost use Rattle.amcheck.specs.Checks.{IsCheckFault};
-ghost use Rattle.amcheck.specs.Laws.{AnswersAreOne, IsAnswered, ParentsSeeMore};
-ghost use Rattle.amcheck.specs.Reading.{AreFetched, IsRestBut};
-ghost use Rattle.amcheck.specs.Reports.{IsReport};
+ghost use Rattle.amcheck.specs.JudgedPages.{JudgesPages};
+ghost use Rattle.amcheck.specs.Laws.{AnswersAreOne, ParentsSeeMore};
 ghost use Rattle.amcheck.specs.Searching.{AreSearchable};
 ghost use Rattle.amcheck.specs.Sound.{HasLevelsFor};
 ghost use Rattle.amcheck.specs.Stops.{IsBad, IsFirstPlace};
@@ -22,7 +16,7 @@ use crate::pages::Pages;
 use crate::report::{CheckFault, Report};
 use crate::stops::Stop;
 use damages::first_damage_is_one;
-use index_model::{Fault, Progress};
+use index_model::Progress;
 use page_action::PageStore;
 use std::alloc::Global;
 use std::thread::Threads;
@@ -46,28 +40,9 @@ pub fn check<R: Threads + Sync, S: PageStore, P: Progress>(
     store: &mut S,
     progress: &P,
 ) -> Result<Report, CheckFault>
-    ensures steps { Continues S.follows store.old store.new }
-    ensures state { S.state store.new ≡ S.state store.old }
-    ensures room { KeepsRoom (S.state store.old) (S.backing store.old) (S.backing store.new) }
-    // Nothing is forced or written except for the frames that the pages take, and the log isn't stopped if
-    // a check answers.
-    ensures frames { AreFetched (S.state store.old) (S.memory store.old) (S.memory store.new)
-        (S.backing store.old) (S.backing store.new) }
-    ensures order { IsRestBut (pinned_blocks (S.state store.old).table)
-        (S.backing store.new).changed (S.backing store.old).changed }
-    ensures alive { IsAnswered result
-        → (S.backing store.new).stopped ≡ true → (S.backing store.old).stopped ≡ true }
+    ensures judged { JudgesPages S.PageStore false result store.old store.new }
     ensures levels { (S.backing store.new).honest ≡ true
         → OnOk result (HasLevelsFor (S.state store.old).limits (S.state store.old).pages) }
-    ensures report { (S.backing store.new).honest ≡ true
-        → IfOk result (IsReport (S.state store.old).pages) }
-    // It answers the first damage that there is, if there is one.
-    ensures answer { (S.backing store.new).honest ≡ true
-        → IsAnswer false (S.state store.old).limits.unique (S.state store.old).pages result }
-    ensures fault { IfErr result (IsCheckFault (S.state store.old) (S.backing store.old)
-        (S.backing store.new)
-        (IsTreeFor (S.state store.old).limits (S.state store.old).pages)) }
-    ensures unread { result ≡ Err (CheckFault.Refused Fault.NoMemory) → store.new ≡ store.old }
 {
     check_by(
         |pages: &Pages, keys: bool, root: Option<u32>, stops: &[Stop]| -> Option<usize>
@@ -86,27 +61,9 @@ pub fn check_one<S: PageStore, P: Progress>(
     store: &mut S,
     progress: &P,
 ) -> Result<Report, CheckFault>
-    ensures steps { Continues S.follows store.old store.new }
-    ensures state { S.state store.new ≡ S.state store.old }
-    ensures room { KeepsRoom (S.state store.old) (S.backing store.old) (S.backing store.new) }
-    // Nothing is forced or written except for the frames that the pages take, and the log isn't stopped if
-    // a check answers.
-    ensures frames { AreFetched (S.state store.old) (S.memory store.old) (S.memory store.new)
-        (S.backing store.old) (S.backing store.new) }
-    ensures order { IsRestBut (pinned_blocks (S.state store.old).table)
-        (S.backing store.new).changed (S.backing store.old).changed }
-    ensures alive { IsAnswered result
-        → (S.backing store.new).stopped ≡ true → (S.backing store.old).stopped ≡ true }
+    ensures judged { JudgesPages S.PageStore false result store.old store.new }
     ensures levels { (S.backing store.new).honest ≡ true
         → OnOk result (HasLevelsFor (S.state store.old).limits (S.state store.old).pages) }
-    ensures report { (S.backing store.new).honest ≡ true
-        → IfOk result (IsReport (S.state store.old).pages) }
-    ensures answer { (S.backing store.new).honest ≡ true
-        → IsAnswer false (S.state store.old).limits.unique (S.state store.old).pages result }
-    ensures fault { IfErr result (IsCheckFault (S.state store.old) (S.backing store.old)
-        (S.backing store.new)
-        (IsTreeFor (S.state store.old).limits (S.state store.old).pages)) }
-    ensures unread { result ≡ Err (CheckFault.Refused Fault.NoMemory) → store.new ≡ store.old }
 {
     check_by(
         |pages: &Pages, keys: bool, root: Option<u32>, stops: &[Stop]| -> Option<usize>
@@ -132,28 +89,9 @@ pub fn check_parents<R: Threads + Sync, S: PageStore, P: Progress>(
     store: &mut S,
     progress: &P,
 ) -> Result<Report, CheckFault>
-    ensures steps { Continues S.follows store.old store.new }
-    ensures state { S.state store.new ≡ S.state store.old }
-    ensures room { KeepsRoom (S.state store.old) (S.backing store.old) (S.backing store.new) }
-    // Nothing is forced or written except for the frames that the pages take, and the log isn't stopped if
-    // a check answers.
-    ensures frames { AreFetched (S.state store.old) (S.memory store.old) (S.memory store.new)
-        (S.backing store.old) (S.backing store.new) }
-    ensures order { IsRestBut (pinned_blocks (S.state store.old).table)
-        (S.backing store.new).changed (S.backing store.old).changed }
-    ensures alive { IsAnswered result
-        → (S.backing store.new).stopped ≡ true → (S.backing store.old).stopped ≡ true }
+    ensures judged { JudgesPages S.PageStore true result store.old store.new }
     ensures tree { (S.backing store.new).honest ≡ true
         → OnOk result (IsTreeFor (S.state store.old).limits (S.state store.old).pages) }
-    ensures report { (S.backing store.new).honest ≡ true
-        → IfOk result (IsReport (S.state store.old).pages) }
-    // It answers the first damage that there is, if there is one.
-    ensures answer { (S.backing store.new).honest ≡ true
-        → IsAnswer true (S.state store.old).limits.unique (S.state store.old).pages result }
-    ensures fault { IfErr result (IsCheckFault (S.state store.old) (S.backing store.old)
-        (S.backing store.new)
-        (IsTreeFor (S.state store.old).limits (S.state store.old).pages)) }
-    ensures unread { result ≡ Err (CheckFault.Refused Fault.NoMemory) → store.new ≡ store.old }
 {
     check_parents_by(
         |pages: &Pages, keys: bool, root: Option<u32>, stops: &[Stop]| -> Option<usize>
@@ -172,27 +110,9 @@ pub fn check_parents_one<S: PageStore, P: Progress>(
     store: &mut S,
     progress: &P,
 ) -> Result<Report, CheckFault>
-    ensures steps { Continues S.follows store.old store.new }
-    ensures state { S.state store.new ≡ S.state store.old }
-    ensures room { KeepsRoom (S.state store.old) (S.backing store.old) (S.backing store.new) }
-    // Nothing is forced or written except for the frames that the pages take, and the log isn't stopped if
-    // a check answers.
-    ensures frames { AreFetched (S.state store.old) (S.memory store.old) (S.memory store.new)
-        (S.backing store.old) (S.backing store.new) }
-    ensures order { IsRestBut (pinned_blocks (S.state store.old).table)
-        (S.backing store.new).changed (S.backing store.old).changed }
-    ensures alive { IsAnswered result
-        → (S.backing store.new).stopped ≡ true → (S.backing store.old).stopped ≡ true }
+    ensures judged { JudgesPages S.PageStore true result store.old store.new }
     ensures tree { (S.backing store.new).honest ≡ true
         → OnOk result (IsTreeFor (S.state store.old).limits (S.state store.old).pages) }
-    ensures report { (S.backing store.new).honest ≡ true
-        → IfOk result (IsReport (S.state store.old).pages) }
-    ensures answer { (S.backing store.new).honest ≡ true
-        → IsAnswer true (S.state store.old).limits.unique (S.state store.old).pages result }
-    ensures fault { IfErr result (IsCheckFault (S.state store.old) (S.backing store.old)
-        (S.backing store.new)
-        (IsTreeFor (S.state store.old).limits (S.state store.old).pages)) }
-    ensures unread { result ≡ Err (CheckFault.Refused Fault.NoMemory) → store.new ≡ store.old }
 {
     check_parents_by(
         |pages: &Pages, keys: bool, root: Option<u32>, stops: &[Stop]| -> Option<usize>

@@ -1,6 +1,6 @@
 //! All pages of an index are judged: the chains of its levels, with its parents and children or without.
 
-ghost use Rattle.std.specs.Prelude.{◌≡◌, ◌≢◌, ◌≤◌, ◌<◌, suc, true, false, None, [], IfNone, IfSome, IfOk, IfErr, OnOk, OnErr, length, replicate, vec_capacity};
+ghost use Rattle.std.specs.Prelude.{◌≡◌, ◌≢◌, ◌≤◌, ◌<◌, suc, true, false, None, IfNone, IfSome, IfOk, IfErr, OnOk, OnErr, length, replicate};
 ghost use Rattle.damages.specs.Damages.{index_of, IsSound, IsFirstDamage};
 ghost use Rattle.tree_shape.specs.KeyPages.{AreUnique};
 ghost use Rattle.damages.specs.Levels.{HasLevels, HasUniqueLevels};
@@ -9,28 +9,23 @@ ghost use Rattle.amcheck.specs.AllStops.{AreAllStops};
 ghost use Rattle.amcheck.specs.Levels.{NamesRoot};
 ghost use Rattle.amcheck.specs.Marks.{IsMet};
 ghost use Rattle.amcheck.specs.Places.{StandAtTheirBlocks};
+ghost use Rattle.amcheck.specs.Reading.{RoomIsReady};
 ghost use Rattle.amcheck.specs.Reports.{IsReport};
 ghost use Rattle.amcheck.specs.Sound.{IsSoundTree};
 ghost use Rattle.amcheck.specs.Searching.{MaySearch, FindsFirst};
 ghost use Rattle.amcheck.specs.Stops.{stop_blocks};
 
-use crate::chain_damages::find_chain_damage;
+use crate::chain_damages::{Root, find_chain_damage};
 use crate::chain_places::note_places;
 use crate::counts::count_up;
 use crate::marks::Met;
 use crate::pages::Pages;
 use crate::parent_damages::find_parent_damage;
+use crate::reading::Room;
 use crate::report::{Damage, Report};
 use crate::stops::Stop;
 use crate::strays::find_stray;
 use damages::{first_damage_is_one, sound_pages_are_a_tree, trees_are_sound};
-
-/// The root's block, and its level.
-#[derive(Clone, Copy)]
-struct Root {
-    block: u32,
-    level: u8,
-}
 
 /// The root that the metapage, the page of block 0, names. Damage 1 of block 0, if there is no page.
 fn find_root(pages: &Pages) -> Result<Root, Damage>
@@ -89,26 +84,18 @@ fn judge_parents(
     }
 }
 
-/// Judges the chains of all levels: a report, or the first damage. No block was seen or met before.
+/// Judges the chains of all levels: a report, or the first damage. Nothing was judged in this room before.
 pub(crate) fn judge_chains<F: Fn(&Pages, bool, Option<u32>, &[Stop]) -> Option<usize>>(
     find: &F,
     pages: &Pages,
     keys: bool,
-    seen: &mut [bool],
-    met: &mut Met,
-    stops: &mut Vec<Stop>,
-    chains: &mut Vec<Stop>,
+    room: &mut Room,
 ) -> Result<Report, Damage>
     requires may { MaySearch (F.pre find.now) }
     requires finds { FindsFirst (F.post find.now) }
     requires stand { StandAtTheirBlocks pages.now }
     requires few { length pages.now ≤ 65536 }
-    requires seen { seen.old ≡ replicate (length pages.now) false }
-    requires met { IsMet met.old (length pages.now) }
-    requires none { met.old.blocks.items ≡ [] }
-    requires no_stops { chains.old.items ≡ [] }
-    requires room { length pages.now ≤ vec_capacity stops.old }
-    requires more_room { length pages.now ≤ vec_capacity chains.old }
+    requires ready { RoomIsReady room.old (length pages.now) }
     ensures sound { OnOk result (IsSound false keys pages.now) }
     ensures levels { OnOk result (HasLevels pages.now) }
     ensures unique { keys ≡ true → OnOk result (HasUniqueLevels pages.now) }
@@ -123,39 +110,25 @@ pub(crate) fn judge_chains<F: Fn(&Pages, bool, Option<u32>, &[Stop]) -> Option<u
         Ok(root) => root,
         Err(damage) => return Err(damage),
     };
-    match find_chain_damage(
-        find, pages, keys, seen, met, stops, chains, root.block, root.level,
-    ) {
+    match find_chain_damage(find, pages, keys, &mut room.walks, &mut room.chains, root) {
         Some(damage) => Err(damage),
         None => Ok(count_up(pages, root.level as u32 + 1)),
     }
 }
 
-/// Judges all pages, with parents and children: a report, or the first damage. No block was seen, met, noted
-/// or marked before.
+/// Judges all pages, with parents and children: a report, or the first damage. Nothing was judged in this
+/// room before.
 pub(crate) fn judge<F: Fn(&Pages, bool, Option<u32>, &[Stop]) -> Option<usize>>(
     find: &F,
     pages: &Pages,
     keys: bool,
-    seen: &mut [bool],
-    met: &mut Met,
-    stops: &mut Vec<Stop>,
-    chains: &mut Vec<Stop>,
-    places: &mut [Option<u32>],
-    linked: &mut [bool],
+    room: &mut Room,
 ) -> Result<Report, Damage>
     requires may { MaySearch (F.pre find.now) }
     requires finds { FindsFirst (F.post find.now) }
     requires stand { StandAtTheirBlocks pages.now }
     requires few { length pages.now ≤ 65536 }
-    requires seen { seen.old ≡ replicate (length pages.now) false }
-    requires met { IsMet met.old (length pages.now) }
-    requires none { met.old.blocks.items ≡ [] }
-    requires no_stops { chains.old.items ≡ [] }
-    requires room { length pages.now ≤ vec_capacity stops.old }
-    requires more_room { length pages.now ≤ vec_capacity chains.old }
-    requires places { places.old ≡ replicate (length pages.now) None }
-    requires linked { linked.old ≡ replicate (length pages.now) false }
+    requires ready { RoomIsReady room.old (length pages.now) }
     ensures sound { OnOk result (IsSound true keys pages.now) }
     ensures tree { OnOk result (IsTree pages.now) }
     ensures unique { keys ≡ true → OnOk result (AreUnique pages.now) }
@@ -171,11 +144,23 @@ pub(crate) fn judge<F: Fn(&Pages, bool, Option<u32>, &[Stop]) -> Option<usize>>(
         Err(damage) => return Err(damage),
     };
     if let Some(damage) = find_chain_damage(
-        find, pages, keys, seen, met, stops, chains, root.block, root.level,
+        find,
+        pages,
+        keys,
+        &mut room.walks,
+        &mut room.chains,
+        root,
     ) {
         return Err(damage);
     }
-    if let Some(damage) = judge_parents(pages, met, chains, places, linked, root.level) {
+    if let Some(damage) = judge_parents(
+        pages,
+        &room.walks.met,
+        &room.chains,
+        &mut room.places,
+        &mut room.linked,
+        root.level,
+    ) {
         return Err(damage);
     }
     let report = count_up(pages, root.level as u32 + 1);

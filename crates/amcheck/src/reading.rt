@@ -16,15 +16,21 @@ use index_model::{Fault, Progress};
 use page_action::PageStore;
 use std::alloc::Global;
 
-/// All that a check takes of memory beside the room for the pages.
+/// What the walks along the levels take of memory.
 #[derive(Drop)]
-pub(crate) struct Room {
+pub(crate) struct WalkRoom {
     pub(crate) met: Met,
     /// For each page in use whether it was seen on the way to the leftmost page of a level.
     pub(crate) seen: Vec<bool>,
     /// The places of the chain of one level.
     pub(crate) stops: Vec<Stop>,
-    /// Those of the chains of all levels.
+}
+
+/// All that a check takes of memory beside the room for the pages.
+#[derive(Drop)]
+pub(crate) struct Room {
+    pub(crate) walks: WalkRoom,
+    /// The places of the chains of all levels.
     pub(crate) chains: Vec<Stop>,
     /// For each page in use its place among those, if it is on a chain.
     pub(crate) places: Vec<Option<u32>>,
@@ -55,9 +61,7 @@ impl Room {
         };
         let met = Met::new(alloc, used)?;
         Ok(Room {
-            met,
-            seen,
-            stops,
+            walks: WalkRoom { met, seen, stops },
             chains,
             places,
             linked,

@@ -4,13 +4,10 @@ use Rattle.std.specs.declared.cmp.Ordering.{Ordering}
 use Rattle.std.specs.declared.cmp.Ordering.TheVariants.{Less, Equal, Greater}
 use Rattle.std.proofs.lemmas.Cmp.{tied_itself}
 use Rattle.index_model.proofs.Order.{bounds_total, exact_bounds}
-use Rattle.damages.proofs.Imports.{is_lt, cases_eq, cases_lt, cases_Bool, bound_cmp, Bound, IsBeyond, Rises, Index, IsOnLevel}
+use Rattle.damages.proofs.Imports.{is_lt, cases_eq, cases_lt, cases_Bool, bound_cmp, Bound, IsBeyond, Rises, Index, IsOnLevel, same_Some}
 
 pub no_link : {A : Type 0} {n : A} → None ≡ Some n → ⊥
 no_link e = cc
-
-pub some_is : {A : Type 0} (a b : A) → Some a ≡ Some b → a ≡ b
-some_is a b e = cc
 
 -- links
 pub link_so : (o p : Option ℕ) → ((o ≢ p) → ⊥) → o ≡ p
@@ -19,7 +16,7 @@ link_so None (Some b) h = absurd (h no_link)
 link_so (Some a) None h = absurd (h (λ e. no_link (sym e)))
 link_so (Some a) (Some b) h = elim (cases_eq a b) [
   | inl e ↦ ap Some e
-  | inr n ↦ absurd (h (λ e. n (some_is a b e)))
+  | inr n ↦ absurd (h (λ e. n (same_Some a b e)))
 ]
 
 pub link_cases : (o : Option ℕ) → (o ≡ None) ⊎ ((n : ℕ) × (o ≡ Some n))
@@ -44,7 +41,7 @@ bound_so None (Some b) h = absurd (h no_link)
 bound_so (Some a) None h = absurd (h (λ e. no_link (sym e)))
 bound_so (Some a) (Some b) h = elim (same_or a b) [
   | inl e ↦ ap Some e
-  | inr n ↦ absurd (h (λ e. n (some_is a b e)))
+  | inr n ↦ absurd (h (λ e. n (same_Some a b e)))
 ]
 
 pub beyond_so : (low : Option Bound) (x : Bound) → ((IsBeyond low x → ⊥) → ⊥) → IsBeyond low x

@@ -42,7 +42,7 @@ bounds_more d s (j ∷ js) high is up below = go j.bound refl (λ t e. bounds_mo
       subst (λ (o : Option Bound). BoundsWithin o js high) (sym e) (more t e),
     )
 
--- downlinks that the format admits ascend within the low and the high key, where the second lies beyond the low
+-- downlinks that the format admits ascend within the low and the high key, if the second lies beyond the low
 pub links_within : (low : Option Bound) (d : Downlink) (ds : List Downlink) (high : Option Bound) → d.bound ≡ None → FollowedBy LinkBefore d ds
     → AllByRecursion (Below high) ds → IsSecondBeyond low (d ∷ ds)
     → LinksWithin low (d ∷ ds) high

@@ -1,11 +1,11 @@
 -- What a unique index asks of bounds and keys, where it is judged and nothing is damaged.
-use Rattle.std.proofs.Common.{◌≡◌, ℕ, zero, suc, ◌<◌, inl, inr, Bool, true, false, Option, Some, None, List, [], ◌∷◌, length, slice_get, refl, sym, ap, subst, ◌∙◌, arith}
+use Rattle.std.proofs.Common.{◌≡◌, ℕ, zero, suc, inl, inr, Bool, true, false, Option, Some, None, List, [], ◌∷◌, slice_get, refl, sym, ap, subst, ◌∙◌, arith}
 use Rattle.std.specs.Prelude.{IfSome, IsNone}
 use Rattle.index_model.specs.Row.{Row}
 use Rattle.tree_shape.specs.KeyBounds.{IsKeyBound}
 use Rattle.damages.proofs.Imports.{cases_Bool, AllByRecursion, is_lt, key_cmp, Bound, Entry, entries_of, IsPage, IsOfKind, IsLeafIn, Ascends, FollowedBy, Downlink, Items, Meta, Entries, Downlinks}
-use Rattle.damages.proofs.Imports.{Page, PageState, Live, Deleted, KeyBefore, IsKeyLink, IsUniqueNode, IsUniquePage, AreUnique, Node, links_of, node_of, node_from, nodes_of, no_node, Index}
-use Rattle.damages.proofs.Imports.{index_of, Here, Site, IsOfChain, IsDamage, IsSound, on_way, on_chain, at_child, at_page, nowhere, StandAtTheirBlocks, HasUniqueLevels}
+use Rattle.damages.proofs.Imports.{Page, PageState, Live, Deleted, KeyBefore, IsKeyLink, IsUniqueNode, IsUniquePage, AreUnique, Node, links_of, node_of, node_from, nodes_of, no_node, Index, false≢true}
+use Rattle.damages.proofs.Imports.{index_of, Here, Site, IsOfChain, IsDamage, IsSound, on_way, on_chain, at_child, at_page, nowhere, StandAtTheirBlocks, HasUniqueLevels, slice_get_within}
 use Rattle.damages.proofs.Items.{meta_is}
 
 -- each part of it can be decided
@@ -52,10 +52,7 @@ chain_more keys h number (inr (inr (inr (inr (inl a))))) = inr (inr (inr (inr (i
 chain_more keys h number (inr (inr (inr (inr (inr (inl a)))))) = inr (inr (inr (inr (inr (inl a)))))
 chain_more keys h number (inr (inr (inr (inr (inr (inr (inl a))))))) = inr (inr (inr (inr (inr (inr (inl a))))))
 chain_more keys h number (inr (inr (inr (inr (inr (inr (inr (inl a)))))))) = inr (inr (inr (inr (inr (inr (inr (inl a)))))))
-chain_more keys h number (inr (inr (inr (inr (inr (inr (inr (inr a)))))))) = absurd (differ a.1)
-  where
-    differ : false ≡ true → ⊥
-    differ e = cc
+chain_more keys h number (inr (inr (inr (inr (inr (inr (inr (inr a)))))))) = absurd (false≢true a.1)
 
 pub more : {ix : Index} (parents keys : Bool) (site : Site ix) (number : ℕ) → IsDamage parents false site number → IsDamage parents keys site number
 more parents keys (on_way depth step deep) number damage = damage
@@ -109,11 +106,6 @@ meta_unique page admitted first = record {
     meta : page.items ≡ Meta
     meta = meta_is page admitted first
 
-inside : (pages : List Page) (block : ℕ) (page : Page) → slice_get pages block ≡ Some page → block < length pages
-inside [] block page e = absurd cc
-inside (p ∷ pages) zero page e = omega arith
-inside (p ∷ pages) (suc block) page e = (let rest = inside pages block page e in omega arith)
-
 module _ (pages : List Page) (stand : StandAtTheirBlocks pages) (sound : IsSound true true pages) where
   each_unique : (block : ℕ) (page : Page) → slice_get pages block ≡ Some page → IsUniquePage page
   each_unique zero page there = (let own = stand zero page there in meta_unique page own.0 own.1)
@@ -122,7 +114,7 @@ module _ (pages : List Page) (stand : StandAtTheirBlocks pages) (sound : IsSound
     refl,
     (
       omega arith,
-      inside pages (suc block) page there,
+      slice_get_within pages (suc block) page there,
       (λ gone. fails (deleted_unique page (stand (suc block) page there).0 (sym (ap (λ (n : Node). n.state) here) ∙ gone))),
       (λ on. fails (subst IsUniqueNode here (unique_levels true pages sound (suc block) on))),
     ),

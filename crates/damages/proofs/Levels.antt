@@ -3,8 +3,8 @@ use Rattle.std.proofs.Common.{◌≡◌, ◌≢◌, ◌⊎◌, ℕ, suc, ◌+◌
 use Rattle.tree_shape.specs.Tree.{IsMetaOf}
 use Rattle.damages.proofs.Imports.{cases_eq, Page, Node, node_from, nodes_of, LeftContext, context_after, first_context, first_or, IsRunOf, IsRootLevel, IsIn, IsNotIn, AreDistinct, Index, index_of}
 use Rattle.damages.proofs.Imports.{or_block, moved_left, first_child, head, Place, place_at, IsOnLevel, IsAfterRoot, IsSound, IsOfChain, on_way, on_chain, StandAtTheirBlocks, IsAbove, AreLevels}
-use Rattle.damages.proofs.Imports.{HasLevels}
-use Rattle.damages.proofs.Decided.{no_link, some_is, link_so, on_level_so}
+use Rattle.damages.proofs.Imports.{HasLevels, same_Some}
+use Rattle.damages.proofs.Decided.{no_link, link_so, on_level_so}
 use Rattle.damages.proofs.Fitting.{IsRight, right_here, page_there}
 use Rattle.damages.proofs.Items.{meta_is}
 use Rattle.damages.proofs.Places.{at_from, distinct_from, place_is}
@@ -46,7 +46,7 @@ root_told at root (b ∷ c ∷ rest) some d each = by rest d.0.1 (each 2)
     by [] n third = (is_root, incomplete)
     by (e ∷ es) n third = elim (third e refl) [
       | inl is ↦ absurd (n.0 (is_root ∙ sym is))
-      | inr h ↦ absurd (d.0.0 (is_root ∙ sym (some_is c root h.0)))
+      | inr h ↦ absurd (d.0.0 (is_root ∙ sym (same_Some c root h.0)))
     ]
 
 -- the metapage names the root
@@ -132,9 +132,9 @@ module _ (parents : Bool) (pages : List Page) (stand : StandAtTheirBlocks pages)
 
   pub above_at : (level : ℕ) → level < ix.top → IsAbove pages (chain_of pages (suc level)) (chain_of pages level)
   above_at level lt up child low is has lows =
-      let upper : up ≡ head ix (deep_of (suc level)) = some_is up _ (sym is ∙ begins_at (deep_of (suc level)) (suc level) (omega arith) (omega arith)) in
+      let upper : up ≡ head ix (deep_of (suc level)) = same_Some up _ (sym is ∙ begins_at (deep_of (suc level)) (suc level) (omega arith) (omega arith)) in
       let deeper : deep_of level ≡ suc (deep_of (suc level)) = omega arith in
-      let lower : low ≡ head ix (suc (deep_of (suc level))) = some_is low _ (sym lows ∙ begins_at (deep_of level) level (omega arith) (omega arith)) ∙ ap (head ix) deeper in
+      let lower : low ≡ head ix (suc (deep_of (suc level))) = same_Some low _ (sym lows ∙ begins_at (deep_of level) level (omega arith) (omega arith)) ∙ ap (head ix) deeper in
       let first : child ≡ first_child (at (head ix (deep_of (suc level)))).links =
       has.child_is ∙ ap first_child (sym has.links_are) ∙ ap (λ (b : ℕ). first_child (at b).links) upper in
       record { steps = length pages; leads = ap (λ (b : ℕ). moved_left at b (length pages)) first ∙ sym lower }

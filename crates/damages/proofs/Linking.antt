@@ -1,12 +1,12 @@
 -- Downlinks of a level by the places of their pages, had and due.
 use Rattle.std.proofs.Common.{◌≡◌, ◌≢◌, ◌⊎◌, ℕ, zero, suc, ◌<◌, inl, inr, Bool, true, false, Some, List, [], ◌∷◌, take, slice_get, refl, sym, ap, subst, ◌∙◌, arith}
 use Rattle.damages.proofs.Ascending.{IsDownlinkAmong, among_left, among_right, among_cases, Ascend, ascend_front, ascend_back, ascend_sides}
-use Rattle.damages.proofs.Imports.{cases_eq, Downlink, PageState, Live, HalfDead, Deleted, Node, LeftContext, past, context_after, due_link, due_links, from_low, downlinks, IsBoundBeyond}
-use Rattle.damages.proofs.Decided.{no_link, some_is}
+use Rattle.damages.proofs.Imports.{cases_eq, Downlink, PageState, Live, HalfDead, Deleted, Node, LeftContext, past, context_after, due_link, due_links, from_low, downlinks, IsBoundBeyond, same_Some}
+use Rattle.damages.proofs.Decided.{no_link}
 
 pub among_at : (d : Downlink) (xs : List Downlink) (n : ℕ) → slice_get xs n ≡ Some d → IsDownlinkAmong d xs
 among_at d [] n e = absurd (no_link e)
-among_at d (x ∷ xs) zero e = inl (sym (some_is x d e))
+among_at d (x ∷ xs) zero e = inl (sym (same_Some x d e))
 among_at d (x ∷ xs) (suc n) e = inr (among_at d xs n e)
 
 pub at_among : (d : Downlink) (xs : List Downlink) → IsDownlinkAmong d xs → (n : ℕ) × (slice_get xs n ≡ Some d)
@@ -44,7 +44,7 @@ pub has : (at : ℕ → Node) (s : LeftContext) (xs : List ℕ) (place block ite
     → slice_get (from_low (context_after at s (take place xs)).low (at block).links) item ≡ Some d → IsDownlinkAmong d (downlinks at s xs)
 has at s [] place block item d there is = absurd (no_link there)
 has at s (b ∷ bs) zero block item d there is =
-    among_left d (from_low s.low (at b).links) _ (subst (λ (c : ℕ). IsDownlinkAmong d (from_low s.low (at c).links)) (sym (some_is b block there)) (among_at d (from_low s.low (at block).links) item is))
+    among_left d (from_low s.low (at b).links) _ (subst (λ (c : ℕ). IsDownlinkAmong d (from_low s.low (at c).links)) (sym (same_Some b block there)) (among_at d (from_low s.low (at block).links) item is))
 has at s (b ∷ bs) (suc place) block item d there is = among_right d (from_low s.low (at b).links) _ (has at (past b (at b) s) bs place block item d there is)
 
 -- a downlink that is due: the place of the page that is to have it
@@ -85,7 +85,7 @@ is_due at s (b ∷ bs) zero d there bound alive clear =
     (subst (λ (behind : Bool). IsDownlinkAmong d (due_link Live behind s.low b)) (sym clear) (inl whole)))
   where
     same : b ≡ d.child
-    same = some_is b d.child there
+    same = same_Some b d.child there
 
     whole : d ≡ record { bound = s.low; child = b }
     whole = λ i. record { bound = bound i; child = sym same i }
@@ -96,7 +96,7 @@ ascend_index : (xs : List Downlink) (i j : ℕ) (d e : Downlink) → Ascend xs �
     → IsBoundBeyond d.bound e.bound
 ascend_index [] i j d e a lt f g = absurd (no_link f)
 ascend_index (x ∷ xs) zero zero d e a lt f g = absurd (omega arith)
-ascend_index (x ∷ xs) zero (suc j) d e a lt f g = subst (λ (z : Downlink). IsBoundBeyond z.bound e.bound) (some_is x d f) (a.0 e (among_at e xs j g))
+ascend_index (x ∷ xs) zero (suc j) d e a lt f g = subst (λ (z : Downlink). IsBoundBeyond z.bound e.bound) (same_Some x d f) (a.0 e (among_at e xs j g))
 ascend_index (x ∷ xs) (suc i) zero d e a lt f g = absurd (omega arith)
 ascend_index (x ∷ xs) (suc i) (suc j) d e a lt f g = ascend_index xs i j d e a.1 (omega arith) f g
 
@@ -105,7 +105,7 @@ pub ascend_items : (at : ℕ → Node) (s : LeftContext) (xs : List ℕ) (n b : 
 ascend_items at s [] n b i j d e a there lt f g = absurd (no_link there)
 ascend_items at s (x ∷ xs) zero b i j d e a there lt f g =
     ascend_index (from_low s.low (at b).links) i j d e
-    (subst (λ (c : ℕ). Ascend (from_low s.low (at c).links)) (some_is x b there) (ascend_front (from_low s.low (at x).links) (downlinks at (past x (at x) s) xs) a)) lt f g
+    (subst (λ (c : ℕ). Ascend (from_low s.low (at c).links)) (same_Some x b there) (ascend_front (from_low s.low (at x).links) (downlinks at (past x (at x) s) xs) a)) lt f g
 ascend_items at s (x ∷ xs) (suc n) b i j d e a there lt f g = ascend_items at (past x (at x) s) xs n b i j d e (ascend_back (from_low s.low (at x).links) _ a) there lt f g
 
 pub ascend_places : (at : ℕ → Node) (s : LeftContext) (xs : List ℕ) (n b m c : ℕ) (i j : ℕ) (d e : Downlink) → Ascend (downlinks at s xs) → n < m
@@ -115,7 +115,7 @@ ascend_places at s [] n b m c i j d e a lt there then f g = absurd (no_link ther
 ascend_places at s (x ∷ xs) n b zero c i j d e a lt there then f g = absurd (omega arith)
 ascend_places at s (x ∷ xs) zero b (suc m) c i j d e a lt there then f g =
     ascend_sides (from_low s.low (at x).links) (downlinks at (past x (at x) s) xs) a d e
-    (subst (λ (y : ℕ). IsDownlinkAmong d (from_low s.low (at y).links)) (sym (some_is x b there)) (among_at d (from_low s.low (at b).links) i f))
+    (subst (λ (y : ℕ). IsDownlinkAmong d (from_low s.low (at y).links)) (sym (same_Some x b there)) (among_at d (from_low s.low (at b).links) i f))
     (has at (past x (at x) s) xs m c j e then g)
 ascend_places at s (x ∷ xs) (suc n) b (suc m) c i j d e a lt there then f g =
     ascend_places at (past x (at x) s) xs n b m c i j d e (ascend_back (from_low s.low (at x).links) _ a) (omega arith) there then f g

@@ -1,8 +1,9 @@
--- Where neither a chain nor parents and children are damaged, each level has the downlinks that the level below is to have.
+-- Where neither a chain nor parents and children are damaged, each level has the downlinks that the level
+-- below is to have.
 use Rattle.std.proofs.Common.{◌≡◌, ◌≢◌, ◌⊎◌, ℕ, suc, ◌+◌, ◌-◌, ◌≤◌, inl, inr, true, false, Some, List, take, slice_get, refl, sym, ap, subst, ◌∙◌, arith}
 use Rattle.damages.proofs.Ascending.{IsDownlinkAmong, same_list, due_ascend, down_ascend}
 use Rattle.damages.proofs.Imports.{Downlink, Page, PageState, Live, HalfDead, Deleted, Node, nodes_of, LeftContext, context_after, first_context, due_links, from_low, downlinks, FitsState, IsIn, Index}
-use Rattle.damages.proofs.Imports.{index_of, Place, place_at, Here, Item, context, IsOnLevel, IsOnChain, IsUnlinked, IsSound, at_child, at_page, StandAtTheirBlocks, is_in_or}
+use Rattle.damages.proofs.Imports.{index_of, Place, place_at, Here, Item, context, IsOnLevel, IsOnChain, IsUnlinked, IsSound, at_child, at_page, StandAtTheirBlocks, is_in_or, false≢true}
 use Rattle.damages.proofs.Decided.{bound_so, bool_so, on_level_so}
 use Rattle.damages.proofs.Levels.{chain_at, right_at, place_told, block_at, distinct_at, run_at}
 use Rattle.damages.proofs.Linking.{leads_or, had, has, HasDueDownlink, due, is_due}
@@ -133,10 +134,7 @@ module _ (pages : List Page) (stand : StandAtTheirBlocks pages) (sound : IsSound
           where
             differ : Live ≡ HalfDead → ⊥
             differ e = cc
-        not_unlinked (inr behind) = differ (sym a.clear ∙ sym (ap (λ (p : Place). p.context.behind) (lower_told a.place)) ∙ behind)
-          where
-            differ : false ≡ true → ⊥
-            differ e = cc
+        not_unlinked (inr behind) = false≢true (sym a.clear ∙ sym (ap (λ (p : Place). p.context.behind) (lower_told a.place)) ∙ behind)
 
         alone : ((e : Downlink) → IsDownlinkAmong e (downlinks at first_context upper) → e.child ≢ d.child) → ⊥
         alone none' =

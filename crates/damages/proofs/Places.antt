@@ -1,7 +1,8 @@
 -- The places of a level whose pages are a chain.
 use Rattle.std.proofs.Common.{◌≡◌, ℕ, zero, suc, ◌+◌, ◌<◌, inl, inr, Option, Some, None, List, [], ◌∷◌, take, slice_get, refl, sym, ap, subst, ◌∙◌, arith}
 use Rattle.damages.proofs.Imports.{Node, LeftContext, past, context_after, first_context, first_or, IsPlaced, IsRunOf, IsIn, AreDistinct, not_in_apart, not_in_from, Place, next_place, place_from}
-use Rattle.damages.proofs.Decided.{no_link, some_is}
+use Rattle.damages.proofs.Imports.{same_Some}
+use Rattle.damages.proofs.Decided.{no_link}
 
 -- a block of the list, with its place there
 pub record HasPlace (b : ℕ) (xs : List ℕ) : Type 0 where
@@ -15,15 +16,15 @@ at_from b (x ∷ xs) (inr i) = (let r = at_from b xs i in record { place = suc r
 
 pub in_from : (b : ℕ) (xs : List ℕ) (n : ℕ) → slice_get xs n ≡ Some b → IsIn b xs
 in_from b [] n e = absurd (no_link e)
-in_from b (x ∷ xs) zero e = inl (sym (some_is x b e))
+in_from b (x ∷ xs) zero e = inl (sym (same_Some x b e))
 in_from b (x ∷ xs) (suc n) e = inr (in_from b xs n e)
 
 -- different blocks have one place each
 pub one_place : (xs : List ℕ) (m n b : ℕ) → AreDistinct xs → slice_get xs m ≡ Some b → slice_get xs n ≡ Some b → m ≡ n
 one_place [] m n b d e f = absurd (no_link e)
 one_place (x ∷ xs) zero zero b d e f = refl
-one_place (x ∷ xs) zero (suc n) b d e f = absurd (not_in_apart x b xs d.0 (in_from b xs n f) (some_is x b e))
-one_place (x ∷ xs) (suc m) zero b d e f = absurd (not_in_apart x b xs d.0 (in_from b xs m e) (some_is x b f))
+one_place (x ∷ xs) zero (suc n) b d e f = absurd (not_in_apart x b xs d.0 (in_from b xs n f) (same_Some x b e))
+one_place (x ∷ xs) (suc m) zero b d e f = absurd (not_in_apart x b xs d.0 (in_from b xs m e) (same_Some x b f))
 one_place (x ∷ xs) (suc m) (suc n) b d e f = (let r = one_place xs m n b d.1 e f in omega (arith, r))
 
 -- ... and blocks that no two places share are different
@@ -38,7 +39,7 @@ distinct_from (x ∷ xs) h = (
 pub placed_at : (at : ℕ → Node) (level : ℕ) (s : LeftContext) (xs : List ℕ) (n b : ℕ) → IsRunOf at level s xs None → slice_get xs n ≡ Some b
     → IsPlaced (at b) level (context_after at s (take n xs)) (slice_get xs (suc n))
 placed_at at level s [] n b run e = absurd (no_link e)
-placed_at at level s (x ∷ xs) zero b run e = subst (λ (c : ℕ). IsPlaced (at c) level s (slice_get xs 0)) (some_is x b e) (subst (IsPlaced (at x) level s) (first_at xs) run.0)
+placed_at at level s (x ∷ xs) zero b run e = subst (λ (c : ℕ). IsPlaced (at c) level s (slice_get xs 0)) (same_Some x b e) (subst (IsPlaced (at x) level s) (first_at xs) run.0)
   where
     first_at : (xs : List ℕ) → first_or xs None ≡ slice_get xs 0
     first_at [] = refl

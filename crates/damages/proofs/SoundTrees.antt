@@ -1,7 +1,7 @@
 -- Pages without a damage, parents and children seen, are a B-link tree.
 use Rattle.std.proofs.Common.{◌≡◌, ◌≢◌, ◌⊎◌, ℕ, suc, ◌-◌, ◌<◌, ◌≤◌, inl, inr, true, false, List, length, sym, ap, subst, ◌∙◌, refl, arith}
 use Rattle.damages.proofs.Imports.{Page, Deleted, Node, nodes_of, IsTreeOf, first_context, due_links, downlinks, IsIn, Index, index_of, Place, IsOnChain, IsSound, nowhere, StandAtTheirBlocks}
-use Rattle.damages.proofs.Imports.{LevelsHaveTree}
+use Rattle.damages.proofs.Imports.{IsTree}
 use Rattle.damages.proofs.Levels.{chain_at, chain_of, right_at, place_told, run_at, distinct_at, on_level_at, rooted, has_meta}
 use Rattle.damages.proofs.Parents.{chain_or, parents_are}
 use Rattle.damages.proofs.Places.{in_from}
@@ -43,7 +43,7 @@ module _ (pages : List Page) (stand : StandAtTheirBlocks pages) (sound : IsSound
     root_level = rooted true pages stand sound (ix.top - ix.top) ix.top (omega arith) (omega arith) (omega arith);
   }
 
-  pub has_tree : LevelsHaveTree pages
+  pub has_tree : IsTree pages
   has_tree =
       let m = has_meta true pages stand sound in
       record {

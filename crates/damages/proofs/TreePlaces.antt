@@ -2,8 +2,8 @@
 use Rattle.std.proofs.Common.{◌≡◌, ℕ, zero, suc, ◌-◌, ◌<◌, ◌≤◌, inl, Some, None, List, [], ◌∷◌, ◌++◌, length, take, slice_get, refl, sym, ap, subst, ◌∙◌, arith}
 use Rattle.damages.proofs.Ascending.{IsDownlinkAmong, upper_fits}
 use Rattle.damages.proofs.Imports.{Downlink, Page, Node, nodes_of, LeftContext, past, context_after, first_context, first_or, LinksWithin, IsPlaced, IsRunOf, IsRootLevel, IsTreeOf, from_low, downlinks}
-use Rattle.damages.proofs.Imports.{Index, index_of, moved_left, first_child, head, start, left_after_steps, Place, place_at, Here, node, context, IsOnLevel, IsBack, few_blocks}
-use Rattle.damages.proofs.Decided.{no_link, some_is}
+use Rattle.damages.proofs.Imports.{Index, index_of, moved_left, first_child, head, start, left_after_steps, Place, place_at, Here, node, context, IsOnLevel, IsBack, few_blocks, same_Some}
+use Rattle.damages.proofs.Decided.{no_link}
 use Rattle.damages.proofs.Linking.{due}
 use Rattle.damages.proofs.Places.{in_from, one_place, placed_at, place_is}
 use Rattle.damages.proofs.Ways.{moved_to, gone_first, never_back}
@@ -26,7 +26,7 @@ first_is (x ∷ xs) b e = e
 first_among : (at : ℕ → Node) (level : ℕ) (xs : List ℕ) (b : ℕ) → IsRunOf at (suc level) first_context xs None → slice_get xs 0 ≡ Some b
     → (d : Downlink) × IsDownlinkAmong d (downlinks at first_context xs) × (d.child ≡ first_child (at b).links)
 first_among at level [] b run e = absurd (no_link e)
-first_among at level (x ∷ xs) b run e = by (at x).links (upper_fits (at x).state level first_context (at x) run.0.fits).2 (ap (λ (c : ℕ). first_child (at c).links) (some_is x b e))
+first_among at level (x ∷ xs) b run e = by (at x).links (upper_fits (at x).state level first_context (at x) run.0.fits).2 (ap (λ (c : ℕ). first_child (at c).links) (same_Some x b e))
   where
     by : (links : List Downlink) → LinksWithin None links (at x).high → first_child links ≡ first_child (at b).links
         → (d : Downlink) × IsDownlinkAmong d (from_low None links ++ downlinks at (past x (at x) first_context) xs) × (d.child ≡ first_child (at b).links)

@@ -1,12 +1,12 @@
 -- In a B-link tree there is no damage.
-use Rattle.std.proofs.Common.{◌≡◌, ◌≢◌, ◌⊎◌, ℕ, zero, suc, ◌-◌, ◌<◌, ◌≤◌, inl, inr, Bool, true, false, Option, Some, List, [], ◌∷◌, length, take, slice_get, get_or, refl, sym, ap, subst, ◌∙◌, arith}
+use Rattle.std.proofs.Common.{◌≡◌, ◌≢◌, ◌⊎◌, ℕ, zero, suc, ◌-◌, ◌<◌, ◌≤◌, inl, inr, Bool, true, false, true≢false, Option, Some, List, [], ◌∷◌, length, take, slice_get, get_or, refl, sym, ap, subst, ◌∙◌, arith}
 use Rattle.damages.proofs.Ascending.{IsDownlinkAmong, Ascend, beyond_not, beyond_trans, bounds_in, down_ascend}
-use Rattle.damages.proofs.Decided.{no_link, some_is, bool_so}
+use Rattle.damages.proofs.Decided.{no_link, bool_so}
 use Rattle.damages.proofs.Fitting.{page_there}
 use Rattle.damages.proofs.Imports.{Contains, cases_lt, bound_of, Bound, Entry, Downlink, Page, PageState, Live, HalfDead, Deleted, AreUnique, Node, node_of, node_from, nodes_of, LeftContext}
 use Rattle.damages.proofs.Imports.{context_after, first_context, IsBeyond, Rises, AscendWithin, LinksWithin, FitsState, IsRootLevel, IsTreeOf, from_low, downlinks, Index, index_of, or_block}
 use Rattle.damages.proofs.Imports.{ComesBefore, Place, Here, Item, Site, node, context, IsOnLevel, IsOnChain, IsMetBefore, HasNotBeyond, IsAfterRoot, IsUnlinked, IsOfPath, IsOfChain, IsOfParents}
-use Rattle.damages.proofs.Imports.{IsDamage, IsSound, on_way, on_chain, at_child, at_page, nowhere, StandAtTheirBlocks, LevelsHaveTree, IsBoundBeyond}
+use Rattle.damages.proofs.Imports.{IsDamage, IsSound, on_way, on_chain, at_child, at_page, nowhere, StandAtTheirBlocks, IsTree, IsBoundBeyond, same_Some}
 use Rattle.damages.proofs.Items.{leaf_links, upper_entries}
 use Rattle.damages.proofs.KeysJudged.{unique_at}
 use Rattle.damages.proofs.Linking.{among_at, had, has, IsHad, due, HasDueDownlink, is_due, ascend_items, ascend_places}
@@ -72,9 +72,9 @@ module _ (level : ℕ) (s : LeftContext) (n : Node) (leaf : level ≡ 0 → n.li
 root_part : (at : ℕ → Node) (root : ℕ) (xs : List ℕ) (n b : ℕ) → IsRootLevel at root xs → slice_get xs n ≡ Some b
     → (b ≡ root) ⊎ IsAfterRoot root (context_after at first_context (take n xs))
 root_part at root [] n b h e = absurd h
-root_part at root (x ∷ []) zero b h e = inl (sym (some_is x b e) ∙ h)
+root_part at root (x ∷ []) zero b h e = inl (sym (same_Some x b e) ∙ h)
 root_part at root (x ∷ []) (suc n) b h e = absurd (no_link e)
-root_part at root (x ∷ y ∷ []) zero b h e = inl (sym (some_is x b e) ∙ h.0)
+root_part at root (x ∷ y ∷ []) zero b h e = inl (sym (same_Some x b e) ∙ h.0)
 root_part at root (x ∷ y ∷ []) (suc zero) b h e = inr (ap Some h.0, h.1)
 root_part at root (x ∷ y ∷ []) (suc (suc n)) b h e = absurd (no_link e)
 root_part at root (x ∷ y ∷ z ∷ zs) n b h e = absurd h
@@ -142,9 +142,6 @@ module _ (pages : List Page) (stand : StandAtTheirBlocks pages) (chain : ℕ →
         root_level : IsRootLevel at ix.root xs
         root_level = subst (λ (l : ℕ). IsRootLevel at ix.root (chain l)) (let k : ix.top ≡ ix.top - h.depth = omega arith in k) t.root_level
 
-    not_false : true ≡ false → ⊥
-    not_false e = cc
-
     chain_sound : (keys : Bool) → (keys ≡ true → AreUnique pages) → (number : ℕ) → IsOfChain keys h number → ⊥
     chain_sound keys unique number (inl a) = a.1 (on_level pages chain t h)
     chain_sound keys unique number (inr (inl a)) = a.1 (placed pages chain t h).left_is
@@ -153,7 +150,7 @@ module _ (pages : List Page) (stand : StandAtTheirBlocks pages) (chain : ℕ →
     chain_sound keys unique number (inr (inr (inr (inr (inl a))))) = a.2 (live_rises (node h).state (ix.top - h.depth) (context h) (node h) place_fits a.1)
     chain_sound keys unique number (inr (inr (inr (inr (inr (inl a)))))) = within a.1
     chain_sound keys unique number (inr (inr (inr (inr (inr (inr (inl a))))))) = not_more a.1 a.2 a.3
-    chain_sound keys unique number (inr (inr (inr (inr (inr (inr (inr (inl a)))))))) = not_false (sym a.2 ∙ dead_clear (node h).state (ix.top - h.depth) (context h) (node h) place_fits a.1)
+    chain_sound keys unique number (inr (inr (inr (inr (inr (inr (inr (inl a)))))))) = true≢false (sym a.2 ∙ dead_clear (node h).state (ix.top - h.depth) (context h) (node h) place_fits a.1)
     chain_sound keys unique number (inr (inr (inr (inr (inr (inr (inr (inr a)))))))) = a.2 (unique_at pages h.block (unique a.1))
 
     -- items stand above the leaves, and each is due on the level below
@@ -239,7 +236,7 @@ module _ (pages : List Page) (stand : StandAtTheirBlocks pages) (chain : ℕ →
       where
         differ : Live ≡ HalfDead → ⊥
         differ e = cc
-    leads_to_linked i child same (inr behind) = not_false (sym behind ∙ ap (λ (s : LeftContext). s.behind) (child_context i child same) ∙ (item_due i).clear)
+    leads_to_linked i child same (inr behind) = true≢false (sym behind ∙ ap (λ (s : LeftContext). s.behind) (child_context i child same) ∙ (item_due i).clear)
 
   -- no page has two downlinks
   module _ (h : Here ix) (i : Item h) (page : Here ix) (first : Item page) (same : first.link.child ≡ i.link.child) where
@@ -280,7 +277,7 @@ module _ (pages : List Page) (stand : StandAtTheirBlocks pages) (chain : ℕ →
         (item_at h i)
       where
         block : page.block ≡ h.block
-        block = some_is page.block h.block (sym first_there ∙ ap (slice_get upper) p ∙ there pages chain t h)
+        block = same_Some page.block h.block (sym first_there ∙ ap (slice_get upper) p ∙ there pages chain t h)
     ordered (inr (d, inr (p, inr e))) = absurd e.1
 
     not_second : ComesBefore (page.depth ∷ page.place ∷ first.item ∷ []) (h.depth ∷ h.place ∷ i.item ∷ []) → ⊥
@@ -316,7 +313,7 @@ module _ (pages : List Page) (stand : StandAtTheirBlocks pages) (chain : ℕ →
   all_sound parents keys unique (at_page h) number damage = parents_sound h number damage.1
   all_sound parents keys unique (nowhere b) number damage = damage.2.3 (on_its_chain b damage.2.0 damage.2.1 damage.2.2)
 
-pub tree_is_sound : (parents keys : Bool) (pages : List Page) → StandAtTheirBlocks pages → LevelsHaveTree pages → (keys ≡ true → AreUnique pages) → IsSound parents keys pages
+pub tree_is_sound : (parents keys : Bool) (pages : List Page) → StandAtTheirBlocks pages → IsTree pages → (keys ≡ true → AreUnique pages) → IsSound parents keys pages
 tree_is_sound parents keys pages stand t unique = all_sound pages stand t.chain
     (subst (λ (n : ℕ). IsTreeOf (nodes_of pages) (length pages) n (index_of pages).top t.chain) root_is
     (subst (λ (n : ℕ). IsTreeOf (nodes_of pages) (length pages) t.root n t.chain) top_is t.is)) parents keys unique

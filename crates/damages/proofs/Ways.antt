@@ -1,4 +1,5 @@
--- A way along left links from a page of a chain: it stays on the chain, comes to its first page and never back.
+-- A way along left links from a page of a chain: it stays on the chain, comes to its first page and never
+-- back.
 use Rattle.std.proofs.Common.{◌≡◌, ◌≢◌, ℕ, zero, suc, ◌-◌, ◌<◌, ◌≤◌, inl, inr, Option, Some, None, List, [], ◌∷◌, length, take, slice_get, refl, sym, ap, subst, ◌∙◌, arith}
 use Rattle.damages.proofs.Imports.{cases_lt, Node, LeftContext, past, context_after, first_context, IsRunOf, AreDistinct, or_block, moved_left}
 use Rattle.damages.proofs.Decided.{no_link}

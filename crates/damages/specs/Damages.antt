@@ -11,8 +11,8 @@ use Rattle.tree_shape.specs.KeyPages.{IsUniqueNode}
 use Rattle.tree_shape.specs.Nodes.{Node, nodes_of}
 use Rattle.tree_shape.specs.Chains.{LeftContext, first_context, past, from_low, IsBeyond, Rises}
 
--- what a verifier sees: the pages by their blocks, how many are in use, and the root with its level, as the metapage names
--- them; where there is no metapage block 0, which is on no level
+-- what a verifier sees: the pages by their blocks, how many are in use, and the root with its level, as the
+-- metapage names them; if there is no metapage, block 0, which is on no level
 pub record Index : Type 0 where
   pub at : ℕ → Node
   pub used : ℕ
@@ -46,8 +46,8 @@ abbrev pub first_child : List Downlink → ℕ
 first_child [] = 0
 first_child (link ∷ links) = link.child
 
--- the leftmost page of a level: from the root, and else from the first child of the leftmost page above, left links are
--- followed as far as they lead
+-- the leftmost page of a level: from the root, and else from the first child of the leftmost page above, left
+-- links are followed as far as they lead
 abbrev pub head : Index → ℕ → ℕ
 head ix zero = moved_left ix.at ix.root ix.used
 head ix (suc depth) = moved_left ix.at (first_child (ix.at (head ix depth)).links) ix.used
@@ -61,7 +61,8 @@ start ix (suc depth) = first_child (ix.at (head ix depth)).links
 abbrev pub left_after_steps : Index → ℕ → ℕ → ℕ
 left_after_steps ix depth steps = moved_left ix.at (start ix depth) steps
 
--- a place of a chain: what a walk along right links knows before it, and the block there, if the chain is so long
+-- a place of a chain: what a walk along right links knows before it, and the block there, if the chain is so
+-- long
 pub record Place : Type 0 where
   pub context : LeftContext
   pub block : Option ℕ
@@ -118,8 +119,8 @@ pub data Site (ix : Index) : Type 0 where
   -- a page on no chain
   nowhere : ℕ → Site ix
 
--- The order of damages: the chains, then parents and children, then pages on no chain; the level from the top; the way to
--- its leftmost page, then its chain by place; the number; the item.
+-- The order of damages: the chains, then parents and children, then pages on no chain; the level from the
+-- top; the way to its leftmost page, then its chain by place; the number; the item.
 abbrev pub rank : {ix : Index} → Site ix → ℕ → List ℕ
 rank (on_way depth step deep) number = 0 ∷ depth ∷ 0 ∷ step ∷ number ∷ []
 rank (on_chain h) number = 0 ∷ h.depth ∷ 1 ∷ h.place ∷ number ∷ []
@@ -184,8 +185,8 @@ IsOfPath ix depth step number =
     ((number ≡ 1) × (IsOnLevel ix depth (left_after_steps ix depth step) → ⊥))
     ⊎ ((number ≡ 3) × IsBack ix depth step)
 
--- ... of a page at its place in a chain; the last is seen where keys are: a whole entry as its high key or as one of its
--- bounds, or, as the format has entries ascend, an entry with the key of the one before it,
+-- ... of a page at its place in a chain; the last is seen if keys are: a whole entry as its high key or as
+-- one of its bounds, or, as the format has entries ascend, an entry with the key of the one before it,
 abbrev pub IsOfChain : {ix : Index} → Bool → Here ix → ℕ → Type 0
 IsOfChain {ix} keys h number =
     ((number ≡ 1) × (IsOnLevel ix h.depth h.block → ⊥))
@@ -212,8 +213,8 @@ IsOfParents {ix} h number =
 abbrev pub IsStray : Index → ℕ → Type 0
 IsStray ix block = (0 < block) × (block < ix.used) × ((ix.at block).state ≢ Deleted) × (IsOnChain ix block → ⊥)
 
--- There is this damage at this site. Parents and children, and pages on no chain, are seen by `check_parents` alone; what a
--- unique index asks of bounds and keys on such an index alone.
+-- There is this damage at this site. Parents and children, and pages on no chain, are seen by `check_parents`
+-- alone; what a unique index asks of bounds and keys on such an index alone.
 abbrev pub IsDamage : {ix : Index} → (parents keys : Bool) → Site ix → ℕ → Type 0
 IsDamage {ix} parents keys (on_way depth step deep) number = IsOfPath ix depth step number
 IsDamage parents keys (on_chain h) number = IsOfChain keys h number

@@ -2,8 +2,9 @@
 use Rattle.std.specs.Prelude.{◌≡◌, ℕ, Bool, true, List}
 use Rattle.page_codec.specs.declared.page.Page.{Page}
 use Rattle.tree_shape.specs.KeyPages.{AreUnique}
+use Rattle.tree_acts.specs.TheoremTree.{IsTree}
 use Rattle.damages.specs.Damages.{IsSound, IsFirstDamage}
-use Rattle.damages.specs.Levels.{StandAtTheirBlocks, HasLevels, HasUniqueLevels, LevelsHaveTree}
+use Rattle.damages.specs.Levels.{StandAtTheirBlocks, HasLevels, HasUniqueLevels}
 
 -- pages have one first damage at most
 abbrev pub FirstIsOne : Type 0
@@ -26,7 +27,7 @@ SoundHasUniqueLevels = (parents : Bool) (pages : List Page) → IsSound parents 
 
 -- ... and a B-link tree, parents and children seen
 abbrev pub SoundHasTree : Type 0
-SoundHasTree = (keys : Bool) (pages : List Page) → StandAtTheirBlocks pages → IsSound true keys pages → LevelsHaveTree pages
+SoundHasTree = (keys : Bool) (pages : List Page) → StandAtTheirBlocks pages → IsSound true keys pages → IsTree pages
 
 -- ... all of whose pages are those of a unique index, parents and children and keys seen
 abbrev pub SoundIsUnique : Type 0
@@ -34,5 +35,5 @@ SoundIsUnique = (pages : List Page) → StandAtTheirBlocks pages → IsSound tru
 
 -- in a B-link tree, of a unique index if keys are seen, there is no damage, parents and children seen or not
 abbrev pub TreeIsSound : Type 0
-TreeIsSound = (parents keys : Bool) (pages : List Page) → StandAtTheirBlocks pages → LevelsHaveTree pages
+TreeIsSound = (parents keys : Bool) (pages : List Page) → StandAtTheirBlocks pages → IsTree pages
     → (keys ≡ true → AreUnique pages) → IsSound parents keys pages

@@ -1,11 +1,11 @@
--- What pages without a damage are: an index of levels, and with parents and children a B-link tree, under the metapage.
+-- What pages without a damage are: an index of levels, under the metapage.
 use Rattle.std.specs.Prelude.{◌≡◌, ◌≢◌, ℕ, suc, ◌<◌, ◌≤◌, Some, None, List, [], ◌∷◌, length, slice_get}
 use Rattle.page_codec.specs.Grammar.{IsPage}
 use Rattle.page_codec.specs.declared.page.Downlink.{Downlink}
 use Rattle.page_codec.specs.declared.page.Page.{Page}
 use Rattle.tree_shape.specs.KeyPages.{IsUniqueNode}
 use Rattle.tree_shape.specs.Nodes.{Node, nodes_of}
-use Rattle.tree_shape.specs.Chains.{IsRunOf, IsRootLevel, IsIn, IsTreeOf, AreDistinct, first_context, first_or}
+use Rattle.tree_shape.specs.Chains.{IsRunOf, IsRootLevel, IsIn, AreDistinct, first_context, first_or}
 use Rattle.tree_shape.specs.Tree.{IsMetaOf}
 use Rattle.damages.specs.Damages.{index_of, moved_left, IsOnChain}
 
@@ -32,8 +32,8 @@ IsAbove pages upper lower = (head child first : ℕ) → first_or upper None ≡
     → HasFirstChild pages head child → first_or lower None ≡ Some first
     → LeadsLeft (nodes_of pages) child first
 
--- Each level, from the root's to the leaves, is one chain of pages, linked both ways. It is the one to whose leftmost page
--- left links lead from the first child of the level above.
+-- Each level, from the root's to the leaves, is one chain of pages, linked both ways. It is the one to whose
+-- leftmost page left links lead from the first child of the level above.
 pub record AreLevels (pages : List Page) (root top : ℕ) (chain : ℕ → List ℕ) : Type 0 where
   pub some : (level : ℕ) → level ≤ top → chain level ≢ []
   pub runs : (level : ℕ) → level ≤ top
@@ -53,16 +53,7 @@ pub record HasLevels (pages : List Page) : Type 0 where
   pub chain : ℕ → List ℕ
   pub are : AreLevels pages root meta.level chain
 
--- each page on the chain of a level is one of a unique index: its bounds are places before all rows of a key, and no two of
--- its entries share a key
+-- each page on the chain of a level is one of a unique index: its bounds are places before all rows of a key,
+-- and no two of its entries share a key
 abbrev pub HasUniqueLevels : List Page → Type 0
 HasUniqueLevels pages = (block : ℕ) → IsOnChain (index_of pages) block → IsUniqueNode (nodes_of pages block)
-
--- the pages are a B-link tree, under the metapage
-pub record LevelsHaveTree (pages : List Page) : Type 0 where
-  pub meta : Page
-  pub meta_at : slice_get pages 0 ≡ Some meta
-  pub root : ℕ
-  pub names_root : IsMetaOf meta root meta.level
-  pub chain : ℕ → List ℕ
-  pub is : IsTreeOf (nodes_of pages) (length pages) root meta.level chain

@@ -8,8 +8,8 @@ pub fn first_damage_is_one()
     ensures none { FirstIsNone }
 {}
 
-/// Does nothing: its clauses say that pages of the format without a damage are an index of levels, and, where parents and
-/// children are seen, a B-link tree; and that, where keys are seen, its pages are those of a unique index.
+/// Does nothing: its clauses say that pages of the format without a damage are an index of levels. If parents
+/// and children are seen too, they are a B-link tree. If keys are seen, they are those of a unique index.
 pub fn sound_pages_are_a_tree()
     ensures levels { SoundHasLevels }
     ensures unique_levels { SoundHasUniqueLevels }
@@ -17,8 +17,8 @@ pub fn sound_pages_are_a_tree()
     ensures unique { SoundIsUnique }
 {}
 
-/// Does nothing: its clause says that in a B-link tree, of a unique index where keys are seen, there is no damage, parents and
-/// children seen or not.
+/// Does nothing: its clause says that a B-link tree has no damage, be parents and children seen or not. If
+/// keys are seen, the tree is one of a unique index.
 pub fn trees_are_sound()
     ensures sound { TreeIsSound }
 {}

@@ -1,4 +1,5 @@
-//! What the verifier answers: no damage, or the first of those that there are. No store is known here, and no search.
+//! What the verifier answers: no damage, or the first of those that there are. No store is known here, and no
+//! search.
 #![tactic(auto)]
 
 mod laws;

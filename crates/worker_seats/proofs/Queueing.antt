@@ -1,7 +1,6 @@
 -- Each step keeps the rule of the queue.
-use Rattle.std.proofs.Common.{◌≡◌, ◌≢◌, ◌⊎◌, ℕ, zero, suc, ◌+◌, ◌-◌, ◌<◌, ◌≤◌, List, [], ◌∷◌, ◌++◌, set, refl, sym, ap, ◌∙◌, subst, ⊎_elim, arith, map, length}
+use Rattle.std.proofs.Common.{◌≡◌, ◌≢◌, ◌⊎◌, ℕ, zero, suc, ◌+◌, ◌-◌, ◌<◌, ◌≤◌, List, [], ◌∷◌, ◌++◌, set, refl, sym, ap, ◌∙◌, subst, inl, inr, ⊎_elim, arith, map, length}
 use Rattle.std.proofs.lemmas.Bool.Decides.{nat_tests}
-use Rattle.std.proofs.lemmas.Bool.{cases_eq}
 use mathlib.Core.Option.{some, some-ne-none, some-injective}
 use lib.ListN.{get_elem?}
 use Rattle.crossbeam_queue.specs.Fifo.{Pushes, Pops, Forks, Merges, Learns}
@@ -29,6 +28,12 @@ one_part [] p u e = absurd (some-ne-none u (sym e))
 one_part (y ∷ ys) zero u e = let s : y.parts ≡ u.parts = ap (λ (z : QueueView). z.parts) (some-injective _ _ e) in omega (arith, s)
 one_part (y ∷ ys) (suc p) u e = omega (arith, one_part ys p u e)
 
+pub nat_cases : (m n : ℕ) → (m ≡ n) ⊎ (m ≢ n)
+nat_cases zero zero = inl refl
+nat_cases zero (suc n) = inr (λ e. omega (arith, e))
+nat_cases (suc m) zero = inr (λ e. omega (arith, e))
+nat_cases (suc m) (suc n) = ⊎_elim (λ e. inl (ap suc e)) (λ f. inr (λ e. f (omega (arith, e)))) (nat_cases m n)
+
 pub is_here : (x : ℕ) → at_alone x x ≡ 1
 is_here x = grind (arith, nat_tests)
 
@@ -41,7 +46,7 @@ under zero x h = absurd (omega (arith, h))
 under (suc n) x h = ⊎_elim
     (λ (e : n ≡ x). omega (arith, e))
     (λ (ne : n ≢ x). (let r = under n x (omega (arith, h, weigh-append (at_alone x) (below n) (n ∷ []), is_else x n ne)) in omega (arith, r)))
-    (cases_eq n x)
+    (nat_cases n x)
 
 -- if one pass has all that counts, the total is its own
 pub total_one : (f g : QueueView → ℕ) (views : List QueueView) (pass : ℕ) (v : QueueView) → get_elem? views pass ≡ some v → total g views ≡ g v

@@ -12,7 +12,7 @@ loop-depth-init g c = record {
   size = ap length c.requires.seen ∙ length-replicate (length c.args.pages.now) false;
   met = c.requires.met;
   room = refl;
-  upper = none_of_upper (index_of c.args.pages.now) (length c.args.pages.now) c.args.seen.now c.args.met.now c.requires.seen c.requires.none;
+  upper = none_of_upper (index_of c.args.pages.now) (length c.args.pages.now) c.args.room.now.seen.items c.args.room.now.met c.requires.seen c.requires.none;
   more_room = refl;
   far = omega arith;
   chains = c.requires.no_stops;
@@ -22,22 +22,22 @@ loop-depth-init g c = record {
 }
 
 -- the blocks that were met are those of the stops of all levels so far
-added_level : (g : Over) (c : In-Ok g) → c.judge_level.new.met.blocks.items ≡ stop_blocks (c.loop-depth.chains.items ++ c.judge_level.new.stops.items)
+added_level : (g : Over) (c : In-Ok g) → c.judge_level.new.room.met.blocks.items ≡ stop_blocks (c.loop-depth.chains.items ++ c.judge_level.new.room.stops.items)
 added_level g c =
-    c.in-Ok.ensures.added ∙ ap (λ (l : List ℕ). l ++ stop_blocks c.judge_level.new.stops.items) c.loop-depth.invariant.added
-    ∙ sym (blocks_append c.loop-depth.chains.items c.judge_level.new.stops.items)
+    c.in-Ok.ensures.added ∙ ap (λ (l : List ℕ). l ++ stop_blocks c.judge_level.new.room.stops.items) c.loop-depth.invariant.added
+    ∙ sym (blocks_append c.loop-depth.chains.items c.judge_level.new.room.stops.items)
 
 pub keep-requires : goal.keep-requires
 keep-requires g c =
     let added = added_level g (goal.at.keep-requires g c).In-Ok in
-    let all = c.loop-depth.chains.items ++ c.judge_level.new.stops.items in
-    let few = few_blocks (length c.args.pages.now) c.judge_level.new.met.blocks.items c.requires.some c.judge_level.ensures.met.distinct c.judge_level.ensures.met.in_use in
+    let all = c.loop-depth.chains.items ++ c.judge_level.new.room.stops.items in
+    let few = few_blocks (length c.args.pages.now) c.judge_level.new.room.met.blocks.items c.requires.some c.judge_level.ensures.met.distinct c.judge_level.ensures.met.in_use in
     omega (
       arith,
       few,
       ap length added,
       blocks_length all,
-      length-append c.loop-depth.chains.items c.judge_level.new.stops.items,
+      length-append c.loop-depth.chains.items c.judge_level.new.room.stops.items,
       ap length c.deref.ensures.value,
       c.requires.more_room,
       c.loop-depth.invariant.more_room,
@@ -52,7 +52,7 @@ pub loop-depth-preserved : goal.loop-depth-preserved
 loop-depth-preserved g c =
     let depth = c.loop-depth.depth in
     let next : suc depth ≡ depth + 1 = omega arith in
-    let kept : c.keep.new.chains.items ≡ c.loop-depth.chains.items ++ c.judge_level.new.stops.items =
+    let kept : c.keep.new.chains.items ≡ c.loop-depth.chains.items ++ c.judge_level.new.room.stops.items =
     c.keep.ensures.kept ∙ ap (λ (l : List Stop). c.loop-depth.chains.items ++ l) c.deref.ensures.value in
     record {
       size = c.judge_level.ensures.size;
@@ -62,9 +62,9 @@ loop-depth-preserved g c =
       far = omega (arith, c.loop-depth-test.true);
       chains = subst (λ (d : ℕ). AreAllStops (index_of c.args.pages.now) d c.keep.new.chains.items) next
           (let all : AreAllStops (index_of c.args.pages.now) (suc depth) c.keep.new.chains.items =
-          (c.loop-depth.chains.items, c.judge_level.new.stops.items, kept, c.loop-depth.invariant.chains, c.in-Ok.ensures.whole) in all);
+          (c.loop-depth.chains.items, c.judge_level.new.room.stops.items, kept, c.loop-depth.invariant.chains, c.in-Ok.ensures.whole) in all);
       added = added_level g (goal.at.loop-depth-preserved g c).In-Ok ∙ ap stop_blocks (sym kept);
-      upper = subst (λ (d : ℕ). AreOfUpper (index_of c.args.pages.now) d c.judge_level.new.seen c.judge_level.new.met) next c.judge_level.ensures.upper;
+      upper = subst (λ (d : ℕ). AreOfUpper (index_of c.args.pages.now) d c.judge_level.new.room.seen.items c.judge_level.new.room.met) next c.judge_level.ensures.upper;
       clear = λ d lt. elim (cases_lt d depth) [
         | inl before ↦ c.loop-depth.invariant.clear d before
         | inr last ↦ subst (IsClearLevel (index_of c.args.pages.now) c.args.keys) (let e : depth ≡ d = omega (arith, lt, last) in e) c.in-Ok.ensures.clear

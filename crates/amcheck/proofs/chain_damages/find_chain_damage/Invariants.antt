@@ -4,14 +4,14 @@ use Rattle.amcheck.proofs.chain_damages.find_chain_damage.Given as goal
 
 abbrev pub invariant-loop-depth : goal.invariant-loop-depth
 invariant-loop-depth g l = record {
-  size : length l.seen ≡ length l.pages;
-  met : IsMet l.met (length l.pages);
-  room : vec_capacity l.stops ≡ vec_capacity l.fn.stops;
-  upper : AreOfUpper (index_of l.pages) l.depth l.seen l.met;
+  size : length l.room.seen.items ≡ length l.pages;
+  met : IsMet l.room.met (length l.pages);
+  room : vec_capacity l.room.stops ≡ vec_capacity l.fn.room.stops;
+  upper : AreOfUpper (index_of l.pages) l.depth l.room.seen.items l.room.met;
   more_room : vec_capacity l.chains ≡ vec_capacity l.fn.chains;
-  far : l.depth ≤ suc l.top;
+  far : l.depth ≤ suc l.root.level;
   chains : AreAllStops (index_of l.pages) l.depth l.chains.items;
-  added : l.met.blocks.items ≡ stop_blocks l.chains.items;
+  added : l.room.met.blocks.items ≡ stop_blocks l.chains.items;
   clear : (d : ℕ) → d < l.depth → IsClearLevel (index_of l.pages) l.keys d;
   begin : l.begin ≡ start (index_of l.pages) l.depth;
 }

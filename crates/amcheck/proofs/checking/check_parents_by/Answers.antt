@@ -1,8 +1,7 @@
-use Rattle.std.proofs.Common.{Bool, ap, true, List, length, refl, subst}
-use Rattle.amcheck.proofs.Fetched.{rest_all}
-use Rattle.amcheck.proofs.FirstDamages.{answer_told, same_fault, never_refused}
-use Rattle.amcheck.proofs.Imports.{NoMemory, Format, Page, pinned_blocks, takes_none, IsAnswer, blocks_below, StandAtTheirBlocks}
-use Rattle.amcheck.proofs.KeysSeen.{tree_told, fault_told}
+use Rattle.std.proofs.Common.{true, ap}
+use Rattle.amcheck.proofs.Imports.{Format, StandAtTheirBlocks}
+use Rattle.amcheck.proofs.JudgedPages.{not_begun, not_read, read_judged}
+use Rattle.amcheck.proofs.KeysSeen.{tree_told}
 use Rattle.amcheck.proofs.Judged.{they_stand, they_are_few}
 use Rattle.amcheck.proofs.checking.check_parents_by.Given.{Over}
 use Rattle.amcheck.proofs.checking.check_parents_by.Goals.{In-Ok-read_pages}
@@ -17,56 +16,29 @@ judge-requires-clause-stand g c = stand g (goal.at.judge-requires-clause-stand g
 pub judge-requires-clause-few : goal.judge-requires-clause-few
 judge-requires-clause-few g c = they_are_few c.in-Ok-read_pages.pages (stand g (goal.at.judge-requires-clause-few g c).In-Ok-read_pages)
 
-pub returns-clause-answer : goal.returns-clause-answer
-returns-clause-answer g c honest =
-    subst (λ (ps : List Page). IsAnswer true (g.S.PageStore.state c.args.store.now).limits.unique ps c.told.result) (c.in-Ok-read_pages.ensures.read.same honest)
-    (subst (λ (keys : Bool). IsAnswer true keys c.in-Ok-read_pages.pages c.told.result) (ap (λ (f : Format). f.unique) c.format-keys.ensures.value)
-    (answer_told true c.format-keys.result.unique c.in-Ok-read_pages.pages c.judge.result c.told.result c.judge.ensures.sound c.judge.ensures.report
-    c.judge.ensures.first c.told.ensures.ok c.told.ensures.err))
+pub returns-in-Err-clause-judged : goal.returns-in-Err-clause-judged
+returns-in-Err-clause-judged g c = not_begun g.S.PageStore true c.in-Err.fault c.args.store.now c.in-Err.ensures.fault
 
-pub returns-in-Err-read_pages-clause-unread : goal.returns-in-Err-read_pages-clause-unread
-returns-in-Err-read_pages-clause-unread g c same = absurd (c.in-Err-read_pages.ensures.memory (same_fault _ NoMemory same))
+pub returns-in-Err-new-clause-judged : goal.returns-in-Err-new-clause-judged
+returns-in-Err-new-clause-judged g c = not_begun g.S.PageStore true c.in-Err-new.fault c.args.store.now c.in-Err-new.ensures.fault
 
-pub returns-clause-unread : goal.returns-clause-unread
-returns-clause-unread g c same = absurd (never_refused c.judge.result c.told.result NoMemory c.told.ensures.ok c.told.ensures.err same)
+pub returns-in-Err-read_pages-clause-judged : goal.returns-in-Err-read_pages-clause-judged
+returns-in-Err-read_pages-clause-judged g c =
+    let read = c.read_pages.ensures in
+    let refused = c.in-Err-read_pages in
+    not_read g.S.PageStore true c.args.store.now c.read_pages.new.store read.steps read.state read.room read.frames refused.fault refused.ensures.memory refused.ensures.cause
 
-pub returns-in-Err-clause-frames : goal.returns-in-Err-clause-frames
-returns-in-Err-clause-frames g c =
-    let st = g.S.PageStore.state c.args.store.now in
-    takes_none st.frames (pinned_blocks st.table) (blocks_below (length st.pages)) (g.S.PageStore.memory c.args.store.now) (g.S.PageStore.backing c.args.store.now)
-
-pub returns-in-Err-clause-order : goal.returns-in-Err-clause-order
-returns-in-Err-clause-order g c = record { count = 0; is = refl }
-
-pub returns-in-Err-new-clause-frames : goal.returns-in-Err-new-clause-frames
-returns-in-Err-new-clause-frames g c =
-    let st = g.S.PageStore.state c.args.store.now in
-    takes_none st.frames (pinned_blocks st.table) (blocks_below (length st.pages)) (g.S.PageStore.memory c.args.store.now) (g.S.PageStore.backing c.args.store.now)
-
-pub returns-in-Err-new-clause-order : goal.returns-in-Err-new-clause-order
-returns-in-Err-new-clause-order g c = record { count = 0; is = refl }
-
-pub returns-in-Err-read_pages-clause-order : goal.returns-in-Err-read_pages-clause-order
-returns-in-Err-read_pages-clause-order g c =
-    let st = g.S.PageStore.state c.args.store.now in
-    rest_all st.frames (pinned_blocks st.table) (blocks_below (length st.pages)) (g.S.PageStore.memory c.args.store.now) (g.S.PageStore.memory c.read_pages.new.store)
-    (g.S.PageStore.backing c.args.store.now) (g.S.PageStore.backing c.read_pages.new.store) c.read_pages.ensures.frames
-
-pub returns-clause-order : goal.returns-clause-order
-returns-clause-order g c =
-    let st = g.S.PageStore.state c.args.store.now in
-    rest_all st.frames (pinned_blocks st.table) (blocks_below (length st.pages)) (g.S.PageStore.memory c.args.store.now) (g.S.PageStore.memory c.read_pages.new.store)
-    (g.S.PageStore.backing c.args.store.now) (g.S.PageStore.backing c.read_pages.new.store) c.read_pages.ensures.frames
+pub returns-clause-judged : goal.returns-clause-judged
+returns-clause-judged g c =
+    let read = c.read_pages.ensures in
+    let known = c.in-Ok-read_pages.ensures in
+    let judged = c.judge.ensures in
+    read_judged g.S.PageStore true c.args.store.now c.read_pages.new.store read.steps read.state read.room read.frames known.alive c.in-Ok-read_pages.pages known.read
+    c.format-keys.result.unique (ap (λ (f : Format). f.unique) c.format-keys.ensures.value) c.judge.result c.told.result c.told.ensures.ok c.told.ensures.err
+    judged.sound judged.report judged.first judged.damaged
 
 pub returns-clause-tree : goal.returns-clause-tree
 returns-clause-tree g c honest =
     tree_told (g.S.PageStore.state c.args.store.now) c.in-Ok-read_pages.pages c.format-keys.result.unique
     (ap (λ (f : Format). f.unique) c.format-keys.ensures.value) c.in-Ok-read_pages.ensures.read.stored
     (c.in-Ok-read_pages.ensures.read.same honest) c.judge.result c.told.result c.told.ensures.ok c.told.ensures.err c.judge.ensures.tree c.judge.ensures.unique
-
-pub returns-clause-fault : goal.returns-clause-fault
-returns-clause-fault g c =
-    fault_told (g.S.PageStore.state c.args.store.now) c.in-Ok-read_pages.pages c.format-keys.result.unique
-    (ap (λ (f : Format). f.unique) c.format-keys.ensures.value) c.in-Ok-read_pages.ensures.read.stored
-    (g.S.PageStore.backing c.args.store.now) (g.S.PageStore.backing c.read_pages.new.store) c.in-Ok-read_pages.ensures.read.same c.judge.result
-    c.told.result c.told.ensures.ok c.told.ensures.err c.judge.ensures.damaged

@@ -1,5 +1,5 @@
 use Rattle.std.proofs.Common.{true, false}
-use Rattle.amcheck.proofs.FirstDamages.{no_pages, top_low, tree_back}
+use Rattle.amcheck.proofs.FirstDamages.{no_pages, top_low}
 use Rattle.amcheck.proofs.KeysSeen.{sound_both, first_both, unique_where}
 use Rattle.amcheck.proofs.ParentDamages.{with_parents}
 use Rattle.amcheck.proofs.Imports.{without_keys, IsSound}
@@ -30,8 +30,7 @@ returns-clause-sound g c = sound g (goal.at.returns-clause-sound g c).After-coun
 
 pub returns-clause-tree : goal.returns-clause-tree
 returns-clause-tree g c =
-    tree_back c.args.pages.now
-    (c.sound_pages_are_a_tree.ensures.tree c.args.keys c.args.pages.now c.requires.stand (sound g (goal.at.returns-clause-tree g c).After-count_up-report))
+    c.sound_pages_are_a_tree.ensures.tree c.args.keys c.args.pages.now c.requires.stand (sound g (goal.at.returns-clause-tree g c).After-count_up-report)
 
 pub returns-clause-unique : goal.returns-clause-unique
 returns-clause-unique g c seen =

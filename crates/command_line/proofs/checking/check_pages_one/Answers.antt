@@ -13,9 +13,9 @@ returns-clause-damage g c is =
       | then-parents w ↦ (
           let e = w.check_parents_one-checked in
           tells_damage c.if-parents.checked c.print_checked.result c.args.parents st was (p.backing c.if-parents.store) old new c.print_checked.ensures
-          (rw (w.store-is, w.checked-is, w.if-parents.true) e.ensures.answer) (rw (w.store-is, w.checked-is) e.ensures.fault) is)
+          (rw (w.store-is, w.checked-is, w.if-parents.true) e.ensures.judged.answer) (rw (w.store-is, w.checked-is) e.ensures.judged.fault) is)
       | else-parents w ↦ (
           let e = w.check_one-checked in
           tells_damage c.if-parents.checked c.print_checked.result c.args.parents st was (p.backing c.if-parents.store) old new c.print_checked.ensures
-          (rw (w.store-is, w.checked-is, w.if-parents.false) e.ensures.answer) (rw (w.store-is, w.checked-is) e.ensures.fault) is)
+          (rw (w.store-is, w.checked-is, w.if-parents.false) e.ensures.judged.answer) (rw (w.store-is, w.checked-is) e.ensures.judged.fault) is)
     ]

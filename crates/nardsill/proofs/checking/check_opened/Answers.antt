@@ -9,11 +9,11 @@ returns-in-Ok g c = record {
     store = c.in-Ok.store;
     opened = c.in-Ok.ensures;
     last = c.check_parents_one.new.store;
-    steps = c.check_parents_one.ensures.steps;
-    state_is = c.check_parents_one.ensures.state;
+    steps = c.check_parents_one.ensures.judged.steps;
+    state_is = c.check_parents_one.ensures.judged.state;
     outcome = c.check_parents_one.result;
     told = c.told.ensures;
-    answer = c.check_parents_one.ensures.answer;
+    answer = c.check_parents_one.ensures.judged.answer;
     tree = c.check_parents_one.ensures.tree;
   };
   refused = refusal_of c.check_parents_one.result c.told.result c.told.ensures;
