@@ -1,3 +1,4 @@
+pub mod Batches
 pub mod Closing
 pub mod Learning
 pub mod Rows

@@ -1,4 +1,5 @@
 pub mod Results
+pub mod Scanning
 pub mod Serving
 pub mod Sessions
 pub mod Told

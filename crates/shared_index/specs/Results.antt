@@ -1,10 +1,10 @@
 -- What a session's call tells its caller, by its last answer.
-use Rattle.std.specs.Prelude.{ℕ, Result, Ok, Err}
+use Rattle.std.specs.Prelude.{ℕ, Bool, true, Result, Ok, Err}
 use Rattle.index_model.specs.declared.fault.Fault.{Fault}
 use Rattle.index_model.specs.declared.fault.Fault.TheVariants.{PageDamaged}
 use Rattle.index_model.specs.declared.stats.VacuumStats.{VacuumStats}
 use Rattle.session_calls.specs.declared.answer.Answer.{Answer}
-use Rattle.session_calls.specs.declared.answer.Answer.TheVariants.{Added, Finished, Forced, Checkpointed, Refused}
+use Rattle.session_calls.specs.declared.answer.Answer.TheVariants.{Added, Done, Finished, Forced, Checkpointed, Refused}
 use Rattle.whole_calls.specs.declared.inserted.Inserted.{Inserted}
 
 -- of an insert: that its entry is added, or a refusal (no insert has another answer)
@@ -25,3 +25,14 @@ told_of_upkeep (Forced count) = Ok count
 told_of_upkeep (Checkpointed count) = Ok count
 told_of_upkeep (Refused fault) = Err fault
 told_of_upkeep answer = Err (PageDamaged 0)
+
+-- of a scan that was refused as it was to begin
+abbrev pub told_of_beginning : Answer → Result Unit Fault
+told_of_beginning (Refused fault) = Err fault
+told_of_beginning answer = Err (PageDamaged 0)
+
+-- of a scan, by its last answer: that it has given all, or a refusal
+abbrev pub told_of_scan : Answer → Result Bool Fault
+told_of_scan Done = Ok true
+told_of_scan (Refused fault) = Err fault
+told_of_scan answer = Err (PageDamaged 0)

@@ -2,8 +2,9 @@
 use Rattle.std.specs.Prelude.{◌≡◌, ℕ, Option, Some, None, List, [], ◌∷◌, ◌++◌}
 use Rattle.std.specs.Option.{ForSome}
 use Rattle.session_calls.specs.declared.answer.Answer.{Answer}
-use Rattle.session_seats.specs.Seats.{view_of}
+use Rattle.session_seats.specs.Seats.{no_view, view_of}
 use Rattle.session_seats.specs.declared.call.CompletedCall.{CompletedCall}
+use Rattle.session_seats.specs.declared.call.PendingCall.{PendingCall}
 use Rattle.session_seats.specs.declared.group.SessionGroup.{Ghosts}
 use Rattle.session_seats.specs.declared.job.Job.{Job}
 use Rattle.session_seats.specs.declared.seat.SessionSeat.{SessionSeat}
@@ -18,6 +19,15 @@ SeatRests seat = ForSome seat (λ s. (view_of s.pass).call ≡ None)
 abbrev pub number_of_seat : {J : Type 0} {h : Ghosts J} → Option (SessionSeat J h) → ℕ
 number_of_seat None = 0
 number_of_seat (Some s) = s.session
+
+-- what its session knows
+abbrev pub session_view : {J : Type 0} {h : Ghosts J} → Option (SessionSeat J h) → SessionView
+session_view None = no_view
+session_view (Some s) = view_of s.pass
+
+-- the scan that is open in its session, if one is
+abbrev pub open_scan : {J : Type 0} {h : Ghosts J} → Option (SessionSeat J h) → Option PendingCall
+open_scan seat = (session_view seat).call
 
 -- the calls that its session has had, with their places in the one log
 abbrev pub calls_had : {J : Type 0} {h : Ghosts J} → Option (SessionSeat J h) → List (ℕ × CompletedCall)

@@ -1,9 +1,10 @@
 -- What sessions know of their calls, side by side with the one log.
-use Rattle.std.specs.Prelude.{◌≡◌, ◌+◌, ℕ, List, [], map, length, slice_get, IfSome}
+use Rattle.std.specs.Prelude.{◌≡◌, ◌+◌, ℕ, Option, None, List, [], map, length, slice_get, IfSome}
 use Rattle.session_seats.specs.Seats.{calls_by}
 use Rattle.session_seats.specs.declared.call.CompletedCall.{CompletedCall}
+use Rattle.session_seats.specs.declared.call.PendingCall.{PendingCall}
 use Rattle.session_seats.specs.declared.group.SessionGroup.{Ghosts}
-use Rattle.shared_index.specs.Sessions.{calls_had, number_of_seat}
+use Rattle.shared_index.specs.Sessions.{calls_had, number_of_seat, open_scan}
 use Rattle.shared_index.specs.declared.session.SharedSession.{SharedSession}
 
 -- a session's number, and its calls with their places in the log
@@ -14,9 +15,13 @@ told_by s = (number_of_seat s.seat, calls_had s.seat)
 abbrev pub all_told : {J : Type 0} {h : Ghosts J} → List (SharedSession J h) → List (ℕ × List (ℕ × CompletedCall))
 all_told sessions = map (λ s. told_by s) sessions
 
+-- a session's number and calls, with the scan that is open in it, if one is
+abbrev pub standing_of : {J : Type 0} {h : Ghosts J} → SharedSession J h → (ℕ × List (ℕ × CompletedCall)) × Option PendingCall
+standing_of s = (told_by s, open_scan s.seat)
+
 -- they are the sessions from this one on, and have had no call
 abbrev pub AreFresh : {J : Type 0} {h : Ghosts J} → ℕ → List (SharedSession J h) → Type 0
-AreFresh first sessions = (k : ℕ) → IfSome (slice_get sessions k) (λ s. told_by s ≡ (first + k, []))
+AreFresh first sessions = (k : ℕ) → IfSome (slice_get sessions k) (λ s. standing_of s ≡ ((first + k, []), None))
 
 -- each of them has had just the calls that the log has of it
 abbrev pub AreOfLog : List CompletedCall → List (ℕ × List (ℕ × CompletedCall)) → Type 0

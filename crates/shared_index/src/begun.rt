@@ -1,7 +1,7 @@
 //! The threads of an index, in a scope of their own.
 
-ghost use Rattle.std.specs.Prelude.{◌≡◌, ◌≤◌, ◌<◌, [], suc, length, vec_len, vec_capacity};
-ghost use Rattle.shared_index.specs.Told.{AreFresh, HaveLearnt, all_told, told_by};
+ghost use Rattle.std.specs.Prelude.{◌≡◌, ◌≤◌, ◌<◌, [], suc, None, length, vec_len, vec_capacity};
+ghost use Rattle.shared_index.specs.Told.{AreFresh, HaveLearnt, all_told, standing_of};
 
 use crate::client::{Client, Worked};
 use crate::crew::{SeatNumber, work_all};
@@ -32,7 +32,7 @@ pub fn run_all<
     sessions: Vec<SharedSession<J>>,
     outs: Vec<C::Out>,
 ) -> (Live<S, T, J>, Vec<SharedSession<J>>, Vec<C::Out>)
-    requires first { told_by first ≡ (0, []) }
+    requires first { standing_of first ≡ ((0, []), None) }
     requires fresh { AreFresh 1 rest.items }
     requires handles { (handles.items ≡ []) × (vec_len rest ≤ vec_capacity handles) }
     requires sessions { (sessions.items ≡ []) × (vec_len rest < vec_capacity sessions) }
@@ -47,7 +47,7 @@ pub fn run_all<
         thread::scope_env(),
         rt,
         move |scope| -> (Vec<SharedSession<J>>, Vec<C::Out>)
-            requires first { told_by first ≡ (0, []) }
+            requires first { standing_of first ≡ ((0, []), None) }
             requires fresh { AreFresh 1 rest.items }
             requires handles { (handles.items ≡ []) × (vec_len rest ≤ vec_capacity handles) }
             requires sessions { (sessions.items ≡ [])

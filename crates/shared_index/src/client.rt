@@ -1,7 +1,7 @@
 //! Who uses an index that threads share.
 
-ghost use Rattle.std.specs.Prelude.{◌≡◌, []};
-ghost use Rattle.shared_index.specs.Sessions.{calls_had, number_of_seat};
+ghost use Rattle.std.specs.Prelude.{◌≡◌, [], None};
+ghost use Rattle.shared_index.specs.Sessions.{calls_had, number_of_seat, open_scan};
 
 use crate::index::SharedIndex;
 use crate::session::SharedSession;
@@ -13,9 +13,9 @@ use std::marker::PhantomData;
 /// What threads do with an index while it is open: each by a session of its own. What it needs for that, a
 /// handle of the runtime or a queue of requests, stands in its own value.
 pub trait Client<S: PageStore, T: DeadRows + Drop> {
-    ghost use Rattle.std.specs.Prelude.{◌≡◌, [], ℕ, List};
+    ghost use Rattle.std.specs.Prelude.{◌≡◌, [], ℕ, List, None};
     ghost use Rattle.session_seats.specs.declared.call.CompletedCall.{CompletedCall};
-    ghost use Rattle.shared_index.specs.Sessions.{calls_had, number_of_seat};
+    ghost use Rattle.shared_index.specs.Sessions.{calls_had, number_of_seat, open_scan};
 
     /// What a thread answers.
     type Out: Send + Drop;
@@ -23,7 +23,8 @@ pub trait Client<S: PageStore, T: DeadRows + Drop> {
     /// What an answer says of the calls that its session has had, each with its place in the one log.
     ghost learnt: { Self.Out → List (ℕ × CompletedCall) → Type 0 };
 
-    /// The work of one thread, by the session of this number, which has had no call.
+    /// The work of one thread, by the session of this number, which has had no call. A scan that is open at
+    /// the end stays so, and the world that is left has its call.
     fn work<J: OriginOn<S>>(
         &self,
         index: &SharedIndex<S, T, J>,
@@ -31,6 +32,7 @@ pub trait Client<S: PageStore, T: DeadRows + Drop> {
         number: u32,
     ) -> Self::Out
         requires fresh { calls_had session.old.seat ≡ [] }
+        requires rests { open_scan session.old.seat ≡ None }
         requires number { number_of_seat session.old.seat ≡ number }
         ensures number { number_of_seat session.new.seat ≡ number }
         ensures learnt { learnt result (calls_had session.new.seat) };
@@ -54,6 +56,7 @@ pub fn do_work<S: PageStore, T: DeadRows + Drop, J: OriginOn<S>, C: Client<S, T>
     kind: PhantomData<C::Out>,
 ) -> Worked<S, T, J, C>
     requires fresh { calls_had session.seat ≡ [] }
+    requires rests { open_scan session.seat ≡ None }
     requires number { number_of_seat session.seat ≡ number }
     ensures number { number_of_seat result.session.seat ≡ number }
     ensures learnt { C.learnt result.out (calls_had result.session.seat) }

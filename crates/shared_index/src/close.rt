@@ -33,7 +33,7 @@ fn check_all<J: SessionGroup>(desk: &mut SessionDesk<J>, sessions: Vec<SharedSes
     ensures own { AreOfLog (view_of desk.old.keeper).log (all_told sessions.items) }
 {
     for session in sessions {
-        let SharedSession { seat } = session;
+        let SharedSession { seat, .. } = session;
         let Some(seat) = seat else { unreachable!() };
         let _seat = check(desk, seat);
     }

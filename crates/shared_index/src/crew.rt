@@ -1,8 +1,8 @@
 //! The threads of an index: one for each session but the first, which is the calling thread's.
 
-ghost use Rattle.std.specs.Prelude.{◌≡◌, ◌≤◌, ◌<◌, ◌+◌, [], ℕ, suc, IfSome, length, slice_get, vec_len, vec_capacity};
-ghost use Rattle.shared_index.specs.Sessions.{calls_had, number_of_seat};
-ghost use Rattle.shared_index.specs.Told.{AreFresh, HaveLearnt, all_told, told_by};
+ghost use Rattle.std.specs.Prelude.{◌≡◌, ◌≤◌, ◌<◌, ◌+◌, [], ℕ, suc, None, IfSome, length, slice_get, vec_len, vec_capacity};
+ghost use Rattle.shared_index.specs.Sessions.{calls_had, number_of_seat, open_scan};
+ghost use Rattle.shared_index.specs.Told.{AreFresh, HaveLearnt, all_told, standing_of};
 
 use crate::client::{Client, Worked, do_work};
 use crate::index::SharedIndex;
@@ -51,6 +51,7 @@ fn start_all<
         let kind: PhantomData<C::Out> = PhantomData;
         let job = move || -> Worked<S, T, J, C>
             requires fresh { calls_had session.seat ≡ [] }
+            requires rests { open_scan session.seat ≡ None }
             requires number { number_of_seat session.seat ≡ number }
             ensures number { number_of_seat result.session.seat ≡ number }
             ensures learnt { C.learnt result.out (calls_had result.session.seat) }
@@ -112,7 +113,7 @@ pub fn work_all<
     mut sessions: Vec<SharedSession<J>>,
     mut outs: Vec<C::Out>,
 ) -> (Vec<SharedSession<J>>, Vec<C::Out>)
-    requires first { told_by first ≡ (0, []) }
+    requires first { standing_of first ≡ ((0, []), None) }
     requires fresh { AreFresh 1 rest.items }
     requires handles { (handles.items ≡ []) × (vec_len rest ≤ vec_capacity handles) }
     requires sessions { (sessions.items ≡ []) × (vec_len rest < vec_capacity sessions) }

@@ -26,8 +26,8 @@ pub struct HoldEnd<J: SessionGroup> {
     pub blocked: bool,
 }
 
-// Whether a step was blocked.
-fn is_blocked(answer: &Answer) -> bool {
+/// Whether a step was blocked.
+pub fn is_blocked(answer: &Answer) -> bool {
     matches!(answer, Answer::Refused(Fault::Blocked(_)))
 }
 

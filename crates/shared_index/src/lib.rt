@@ -9,6 +9,8 @@ mod hold;
 mod index;
 mod results;
 mod rounds;
+mod scan_hold;
+mod scans;
 mod seats;
 mod serving;
 mod session;

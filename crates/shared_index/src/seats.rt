@@ -1,9 +1,9 @@
 //! Sessions of an index that is about to be shared.
 
-ghost use Rattle.std.specs.Prelude.{◌≡◌, ◌≤◌, ◌<◌, [], ℕ, suc, Some, length, slice_get, vec_len, vec_capacity};
+ghost use Rattle.std.specs.Prelude.{◌≡◌, ◌≤◌, ◌<◌, [], ℕ, suc, Some, None, length, slice_get, vec_len, vec_capacity};
 ghost use Rattle.session_seats.specs.Seats.{keeper_with, view_of};
 ghost use Rattle.session_seats.specs.declared.call.PendingCall.{PendingCall as RunningCall};
-ghost use Rattle.shared_index.specs.Told.{AreFresh, told_by};
+ghost use Rattle.shared_index.specs.Told.{AreFresh, standing_of};
 
 use crate::session::{SharedSession, seated};
 use session_seats::{SessionDesk, SessionGroup, open};
@@ -21,7 +21,7 @@ pub fn seat_all<J: SessionGroup>(
     ensures pending { length (view_of desk.new.keeper).pending ≡ count }
     ensures none { (session : ℕ) (p : RunningCall)
         → slice_get (view_of desk.new.keeper).pending session ≡ Some (Some p) → ⊥ }
-    ensures first { told_by result.0 ≡ (0, []) }
+    ensures first { standing_of result.0 ≡ ((0, []), None) }
     ensures fresh { AreFresh 1 result.1.items }
     ensures count { suc (vec_len result.1) ≡ count }
 {

@@ -1,10 +1,12 @@
 //! A session of a shared index.
 
-ghost use Rattle.std.specs.Prelude.{◌≡◌, Some, None, IsSome};
+ghost use Rattle.std.specs.Prelude.{◌≡◌, true, false, Some, None, Err, IsSome};
+ghost use Rattle.std.specs.Option.{ForSome};
 ghost use Rattle.session_seats.specs.Seats.{view_of};
 ghost use Rattle.session_seats.specs.declared.job.Job.{Job as Asked};
 ghost use Rattle.shared_index.specs.Results.{told_of_insert, told_of_upkeep, told_of_vacuum};
-ghost use Rattle.shared_index.specs.Sessions.{HasHadCall, HasTold, SeatRests, calls_had, number_of_seat};
+ghost use Rattle.shared_index.specs.Scanning.{SeatScans};
+ghost use Rattle.shared_index.specs.Sessions.{HasHadCall, HasTold, SeatRests, calls_had, number_of_seat, open_scan};
 
 use crate::index::SharedIndex;
 use crate::results::{told_of_insert, told_of_upkeep, told_of_vacuum};
@@ -17,12 +19,16 @@ use std::sync::Wait;
 use std::time::Clock;
 use whole_calls::Inserted;
 
-/// A session of a shared index. Who has it makes its calls, one at a time, and knows which it has had.
+/// A session of a shared index. Who has it makes its calls, one at a time, and knows which it has had. While
+/// a scan is open in it, each other call is refused with `SessionBusy` (13), and nothing is changed.
 #[derive(Drop)]
 pub struct SharedSession<J: SessionGroup> {
     pub(crate) seat: Option<SessionSeat<J>>,
+    /// How many entries the scan that is open has given.
+    pub(crate) scan: Option<u32>,
     pub ghost there: { IsSome seat },
-    pub ghost rests: { SeatRests seat },
+    pub ghost rests: { scan ≡ None → SeatRests seat },
+    pub ghost scans: { ForSome scan (λ count. SeatScans count seat) },
 }
 
 /// The session of this seat.
@@ -30,7 +36,10 @@ pub fn seated<J: SessionGroup>(seat: SessionSeat<J>) -> SharedSession<J>
     requires idle { (view_of seat.pass).call ≡ None }
     ensures { result.seat ≡ Some seat }
 {
-    SharedSession { seat: Some(seat) }
+    SharedSession {
+        seat: Some(seat),
+        scan: None,
+    }
 }
 
 impl<J: SessionGroup> SharedSession<J> {
@@ -44,6 +53,14 @@ impl<J: SessionGroup> SharedSession<J> {
         }
     }
 
+    /// Whether a scan is open.
+    pub fn is_scanning(&self) -> bool
+        ensures open { result ≡ true → IsSome (open_scan self.now.seat) }
+        ensures rests { result ≡ false → open_scan self.now.seat ≡ None }
+    {
+        self.scan.is_some()
+    }
+
     // A whole call: it begins, goes on until it is over, and answers.
     fn call<S: PageStore, T: DeadRows + Drop, R: Wait>(
         &mut self,
@@ -53,10 +70,13 @@ impl<J: SessionGroup> SharedSession<J> {
     ) -> Answer
     where
         J: OriginOn<S>,
+        requires rests { open_scan self.old.seat ≡ None }
         ensures session { number_of_seat self.new.seat ≡ number_of_seat self.old.seat }
+        ensures rests { open_scan self.new.seat ≡ None }
         ensures told { HasHadCall asked result (calls_had self.old.seat) (calls_had self.new.seat) }
     {
-        let SharedSession { seat } = self;
+        let SharedSession { seat, scan } = self;
+        *scan = None;
         let Some(mine) = seat.take() else {
             unreachable!()
         };
@@ -76,9 +96,15 @@ impl<J: SessionGroup> SharedSession<J> {
     where
         J: OriginOn<S>,
         ensures session { number_of_seat self.new.seat ≡ number_of_seat self.old.seat }
-        ensures told { HasTold (Asked.Insert entry) told_of_insert result
+        ensures busy { IsSome (open_scan self.old.seat)
+            → (result ≡ Err Fault.SessionBusy) × (self.new ≡ self.old) }
+        ensures told { open_scan self.old.seat ≡ None → HasTold (Asked.Insert entry) told_of_insert result
             (calls_had self.old.seat) (calls_had self.new.seat) }
+        ensures scan { open_scan self.new.seat ≡ open_scan self.old.seat }
     {
+        if self.is_scanning() {
+            return Err(Fault::SessionBusy);
+        }
         told_of_insert(self.call(rt, index, Job::Insert(entry)))
     }
 
@@ -94,9 +120,15 @@ impl<J: SessionGroup> SharedSession<J> {
     where
         J: OriginOn<S>,
         ensures session { number_of_seat self.new.seat ≡ number_of_seat self.old.seat }
-        ensures told { HasTold (Asked.Bulk set) told_of_vacuum result
+        ensures busy { IsSome (open_scan self.old.seat)
+            → (result ≡ Err Fault.SessionBusy) × (self.new ≡ self.old) }
+        ensures told { open_scan self.old.seat ≡ None → HasTold (Asked.Bulk set) told_of_vacuum result
             (calls_had self.old.seat) (calls_had self.new.seat) }
+        ensures scan { open_scan self.new.seat ≡ open_scan self.old.seat }
     {
+        if self.is_scanning() {
+            return Err(Fault::SessionBusy);
+        }
         told_of_vacuum(self.call(rt, index, Job::Bulk(set)))
     }
 
@@ -110,9 +142,15 @@ impl<J: SessionGroup> SharedSession<J> {
     where
         J: OriginOn<S>,
         ensures session { number_of_seat self.new.seat ≡ number_of_seat self.old.seat }
-        ensures told { HasTold Asked.Cleanup told_of_vacuum result
+        ensures busy { IsSome (open_scan self.old.seat)
+            → (result ≡ Err Fault.SessionBusy) × (self.new ≡ self.old) }
+        ensures told { open_scan self.old.seat ≡ None → HasTold Asked.Cleanup told_of_vacuum result
             (calls_had self.old.seat) (calls_had self.new.seat) }
+        ensures scan { open_scan self.new.seat ≡ open_scan self.old.seat }
     {
+        if self.is_scanning() {
+            return Err(Fault::SessionBusy);
+        }
         told_of_vacuum(self.call(rt, index, Job::Cleanup))
     }
 
@@ -127,9 +165,15 @@ impl<J: SessionGroup> SharedSession<J> {
     where
         J: OriginOn<S>,
         ensures session { number_of_seat self.new.seat ≡ number_of_seat self.old.seat }
-        ensures told { HasTold Asked.Commit told_of_upkeep result
+        ensures busy { IsSome (open_scan self.old.seat)
+            → (result ≡ Err Fault.SessionBusy) × (self.new ≡ self.old) }
+        ensures told { open_scan self.old.seat ≡ None → HasTold Asked.Commit told_of_upkeep result
             (calls_had self.old.seat) (calls_had self.new.seat) }
+        ensures scan { open_scan self.new.seat ≡ open_scan self.old.seat }
     {
+        if self.is_scanning() {
+            return Err(Fault::SessionBusy);
+        }
         index.rounds.before(rt);
         let answer = self.call(rt, index, Job::Commit);
         index.rounds.after(rt);
@@ -146,9 +190,15 @@ impl<J: SessionGroup> SharedSession<J> {
     where
         J: OriginOn<S>,
         ensures session { number_of_seat self.new.seat ≡ number_of_seat self.old.seat }
-        ensures told { HasTold Asked.Checkpoint told_of_upkeep result
+        ensures busy { IsSome (open_scan self.old.seat)
+            → (result ≡ Err Fault.SessionBusy) × (self.new ≡ self.old) }
+        ensures told { open_scan self.old.seat ≡ None → HasTold Asked.Checkpoint told_of_upkeep result
             (calls_had self.old.seat) (calls_had self.new.seat) }
+        ensures scan { open_scan self.new.seat ≡ open_scan self.old.seat }
     {
+        if self.is_scanning() {
+            return Err(Fault::SessionBusy);
+        }
         told_of_upkeep(self.call(rt, index, Job::Checkpoint))
     }
 }
