@@ -12,6 +12,7 @@
 #include <string.h>
 #include <sys/file.h>
 #include <sys/stat.h>
+#include <sys/vfs.h>
 #include <time.h>
 #include <unistd.h>
 
@@ -413,11 +414,22 @@ static struct outcome share(nardsill *index) {
 /* A path by which the file of a descriptor is opened anew. */
 static void spell_path(int fd, char path[32]) { snprintf(path, 32, "/proc/self/fd/%d", fd); }
 
+/* As Linux names what a program serves by FUSE (statfs(2)), volumes of GlusterFS among them. */
+enum { FUSE = 0x65735546 };
+
+/* Whether a program serves the file, or that can't be known. */
+static int is_served(int fd) {
+    struct statfs where;
+    return fstatfs(fd, &where) || where.f_type == FUSE;
+}
+
 /* Another open file of the same file, which syncs; or the same one, where the system opens none. Of a write that came to nothing the
-   system tells each open file once: so the index's own syncs are told of it too, whoever was told first. */
+   system tells each open file once: so the index's own syncs are told of it too, whoever was told first. On a volume of GlusterFS there
+   is one open file alone: a lock of its own that two share may stay behind on a server that comes back, and keeps other hosts out. */
 static int open_beside(int fd) {
     char anew[32];
     int beside;
+    if (is_served(fd)) return fd;
     spell_path(fd, anew);
     return open_file(anew, 0, &beside).status ? fd : beside;
 }
