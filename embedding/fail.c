@@ -6,6 +6,7 @@
 #include <sys/file.h>
 #include <sys/stat.h>
 #include <sys/types.h>
+#include <sys/vfs.h>
 #include <unistd.h>
 
 #define PATH "fail.idx"
@@ -13,8 +14,10 @@
 
 /* Which calls fail now, and with which number. */
 static int no_sync, no_folder_sync, no_read, no_write, no_link, no_rename;
-/* A file isn't opened a second time. */
-static int no_second;
+/* A file isn't opened a second time. How often one is. */
+static int no_second, seconds;
+/* What a file system is told to be, if it isn't what it is; -1: that can't be known. */
+static long of_kind;
 /* Another maker places the draft just before its lock is asked for. */
 static int is_placed_before;
 /* The folders that were synced, each with whether the file had its name then; closings of what isn't open. */
@@ -29,6 +32,7 @@ int __real_fdatasync(int fd);
 int __real_fsync(int fd);
 int __real_close(int fd);
 int __real_flock(int fd, int how);
+int __real_fstatfs(int fd, struct statfs *where);
 int __real_open(const char *path, int flags, mode_t mode);
 int __real_link(const char *from, const char *to);
 int __real_renameat2(int from_fd, const char *from, int to_fd, const char *to, unsigned flags);
@@ -67,8 +71,18 @@ int __wrap_close(int fd) {
 
 int __wrap_open(const char *path, int flags, ...) {
     if (!(flags & O_CLOEXEC)) shared_opens++;
-    if (no_second && !strncmp(path, "/proc/", 6)) return refuse(no_second);
+    if (!strncmp(path, "/proc/", 6)) {
+        if (no_second) return refuse(no_second);
+        seconds++;
+    }
     return __real_open(path, flags, 0666);
+}
+
+int __wrap_fstatfs(int fd, struct statfs *where) {
+    if (of_kind < 0) return refuse(EIO);
+    int status = __real_fstatfs(fd, where);
+    if (of_kind) where->f_type = of_kind;
+    return status;
 }
 
 int __wrap_flock(int fd, int how) {
@@ -320,12 +334,14 @@ static void drafts(void) {
     unlink("fail-moved.idx");
 }
 
-/* If the system opens a file only once, commits sync with the lock held. */
-static void one_open_file(void) {
+/* If the system opens a file only once, or a program serves it, commits sync with the lock held. */
+static void one_open_file(int second, long kind) {
     nardsill *index;
     uint64_t actions;
     int entries;
-    no_second = ENOENT;
+    no_second = second;
+    of_kind = kind;
+    seconds = 0;
     index = made(PATH, 0);
     IS(0, insert(index, "a", 1, 1));
     IS(0, nardsill_commit(index, &actions));
@@ -339,7 +355,9 @@ static void one_open_file(void) {
     IS(NARDSILL_DONE, count(index, &entries));
     HOLDS(entries >= 1);
     IS(0, nardsill_close(index));
+    IS(0, seconds);
     no_second = 0;
+    of_kind = 0;
 }
 
 /* What is refused at its beginning says why. */
@@ -384,7 +402,9 @@ int main(void) {
     names();
     drafts();
     refusals();
-    one_open_file();
+    one_open_file(ENOENT, 0);
+    one_open_file(0, 0x65735546);
+    one_open_file(0, -1);
     IS(0, wrong_closes);
     IS(0, shared_opens);
     IS(descriptors, open_descriptors());
