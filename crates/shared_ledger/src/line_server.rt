@@ -4,7 +4,7 @@ ghost use Rattle.std.specs.Prelude.{◌≡◌};
 ghost use Rattle.shared_index.specs.Sessions.{number_of_seat};
 
 use crate::requests::{Pause, Requests};
-use index_model::{DeadRows, Entry, Fault, Range};
+use index_model::{DeadRows, Entry, Fault, Range, VacuumStats};
 use ledger_lines::{Line, Reply, parse, put_entry, put_reply};
 use page_action::PageStore;
 use shared_index::{Client, SharedIndex, SharedSession};
@@ -14,6 +14,7 @@ use std::io::{self, BufRead, Write};
 use std::sync::{Mutex, Wait};
 use std::time::Clock;
 use text_forms::first_line;
+use whole_calls::Inserted;
 
 /// How many entries a list holds in memory.
 const BATCH: usize = 64;
@@ -94,20 +95,12 @@ impl<'a, R: Wait + Clock, I: BufRead, O: Write> LineServer<'a, R, I, O> {
             None => return Reply::NotALine,
         };
         match line {
-            Line::Insert(entry) => told(session.insert(self.rt, index, entry), |inserted| {
-                Reply::Added(inserted)
-            }),
+            Line::Insert(entry) => added(session.insert(self.rt, index, entry)),
             Line::Delete(_) => Reply::Refused(Fault::NoMemory),
             Line::List(range) => self.list(index, session, number, range),
-            Line::Vacuum => told(session.clean_up(self.rt, index), |stats| {
-                Reply::CleanedUp(stats)
-            }),
-            Line::Checkpoint => told(session.checkpoint(self.rt, index), |actions| {
-                Reply::Checkpointed(actions)
-            }),
-            Line::Commit => told(session.commit(self.rt, index), |actions| {
-                Reply::Committed(actions)
-            }),
+            Line::Vacuum => cleaned_up(session.clean_up(self.rt, index)),
+            Line::Checkpoint => checkpointed(session.checkpoint(self.rt, index)),
+            Line::Commit => committed(session.commit(self.rt, index)),
         }
     }
 
@@ -158,9 +151,7 @@ impl<'a, R: Wait + Clock, I: BufRead, O: Write> LineServer<'a, R, I, O> {
             return;
         }
         if let Some(line) = self.deletes {
-            let reply = told(session.bulk_delete(self.rt, index, 0), |stats| {
-                Reply::Deleted(stats.tuples_removed)
-            });
+            let reply = deleted(session.bulk_delete(self.rt, index, 0));
             self.print(line, &reply);
         }
     }
@@ -184,10 +175,38 @@ impl<'a, R: Wait + Clock, I: BufRead, O: Write> LineServer<'a, R, I, O> {
     }
 }
 
-// What an answer is printed as.
-fn told<A, F: FnOnce(A) -> Reply>(answer: Result<A, Fault>, reply: F) -> Reply {
+// What the answers of calls are printed as.
+fn added(answer: Result<Inserted, Fault>) -> Reply {
     match answer {
-        Ok(answer) => reply(answer),
+        Ok(inserted) => Reply::Added(inserted),
+        Err(fault) => Reply::Refused(fault),
+    }
+}
+
+fn deleted(answer: Result<VacuumStats, Fault>) -> Reply {
+    match answer {
+        Ok(stats) => Reply::Deleted(stats.tuples_removed),
+        Err(fault) => Reply::Refused(fault),
+    }
+}
+
+fn cleaned_up(answer: Result<VacuumStats, Fault>) -> Reply {
+    match answer {
+        Ok(stats) => Reply::CleanedUp(stats),
+        Err(fault) => Reply::Refused(fault),
+    }
+}
+
+fn checkpointed(answer: Result<u64, Fault>) -> Reply {
+    match answer {
+        Ok(actions) => Reply::Checkpointed(actions),
+        Err(fault) => Reply::Refused(fault),
+    }
+}
+
+fn committed(answer: Result<u64, Fault>) -> Reply {
+    match answer {
+        Ok(actions) => Reply::Committed(actions),
         Err(fault) => Reply::Refused(fault),
     }
 }

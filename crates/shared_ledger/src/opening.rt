@@ -1,6 +1,6 @@
 //! The index in a file, as it is opened or made, and closed.
 
-use access_method::in_file;
+use access_method::in_file::{self, NotMade};
 use device::{FileDevice, Unknown};
 use index_model::{Fault, Limits, NoProgress};
 use ledger_lines::Dead;
@@ -26,14 +26,20 @@ const FRAMES: u32 = 64;
 /// An index in a file, with one set of dead rows.
 pub type Shared = World<Store<FileDevice<Unknown>>, Dead>;
 
+// Makes an empty index.
+fn make<R: Files<File = File>>(rt: &R, path: &str) -> Result<(), Fault> {
+    let _device = match in_file::create(rt, path, &LIMITS, &NoProgress) {
+        Ok(device) => device,
+        Err(NotMade { fault, error: _ }) => return Err(fault),
+    };
+    Ok(())
+}
+
 // Makes an empty index, if no file is there.
 fn make_if_none<R: Files<File = File>>(rt: &R, path: &str) -> Result<(), Fault> {
     match fs::exists(rt, path) {
         Ok(true) => Ok(()),
-        Ok(false) => match in_file::create(rt, path, &LIMITS, &NoProgress) {
-            Ok(_) => Ok(()),
-            Err(not_made) => Err(not_made.fault),
-        },
+        Ok(false) => make(rt, path),
         Err(_) => Err(Fault::Io),
     }
 }

@@ -362,8 +362,6 @@ pub fn end_with_rows<S: PageStore>(index: &mut Index<S>) -> Result<RowSet, Fault
 }
 
 pub fn end_vacuum<S: PageStore>(index: &mut Index<S>) -> Result<(), Fault> {
-    match end_with_rows(index) {
-        Ok(_) => Ok(()),
-        Err(fault) => Err(fault),
-    }
+    let _rows = end_with_rows(index)?;
+    Ok(())
 }
