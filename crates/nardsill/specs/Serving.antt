@@ -1,5 +1,5 @@
 -- What a call of C's does, and what its answer means.
-use Rattle.std.specs.Prelude.{◌≡◌, ◌≢◌, ◌⊎◌, ◌||◌, ℕ, true, false, Option, Some, None, IsSome, Result, Ok, Err, IfOk, IfErr, OnOk, OnErr, ⊤}
+use Rattle.std.specs.Prelude.{◌≡◌, ◌≢◌, ◌⊎◌, ◌||◌, ◌-◌, ℕ, IsTrue, true, false, Option, Some, None, IsSome, Result, Ok, Err, IfOk, IfErr, OnOk, OnErr, ⊤}
 use Rattle.access_method.specs.Counted.{upkeep_outcome}
 use Rattle.access_method.specs.Indexes.{ForEachIndexHistory, IndexIsRun, IndexInserts, IndexMakes, InsertsOrKeeps, IsCleanedUp, IsNewToken, IsBulkDeletedOrLess, IndexStays, SameTokens, NotOpenedFor, NotRescannedFor, RescanMeans, SeatBecomes, BulkDeleteRuns, seat_with, slots_with}
 use Rattle.access_method.specs.Parts.{BulkDeleteIsOpened, CleanupIsOpened, FindsNoVacuum, NotBegunFor, PartCounts, PartCountsOn, PartIsCaused, PartKeeps, VacuumIsEnded, part_answer}
@@ -30,7 +30,7 @@ use Rattle.whole_calls.specs.Vacuuming.{Followed, VacuumMeans, vacuum_outcome}
 use Rattle.whole_calls.specs.Meanings.{HasBegun, IsSameHistory, EndMeans}
 use Rattle.whole_calls.specs.declared.inserted.Inserted.{Inserted}
 use Rattle.nardsill.specs.Asking.{SpellsNoEntry, SpellsNoRange, SpellsEntry, SpellsRange, row_asked, token_asked}
-use Rattle.access_method.specs.Rows.{is_row_in, same_row}
+use Rattle.access_method.specs.Rows.{is_row_in, row_count, same_row}
 use Rattle.nardsill.specs.Meanings.{AnswersFault, Tells, AnswersPartOfCommit, AnswersDurable, AnswersInserted, AnswersPart, SpellsStats, AnswersToken}
 use Rattle.nardsill.specs.declared.answer.Answer.{Answer}
 use Rattle.nardsill.specs.declared.ask.Ask.{Ask}
@@ -156,11 +156,12 @@ pub record GoesOn {S : Type 0} (g : Ghosts S) (steps : ℕ) (answer : Answer) (o
   pub rows : new.rows ≡ old.rows
 
 -- ... was to be over
-pub record EndsVacuum {S : Type 0} (g : Ghosts S) (answer : Answer) (old new : Index S) : Type 0 where
+-- (its rows are spent then)
+pub record EndsVacuum {S : Type 0} (g : Ghosts S) (answer : Answer) (old new : Index S) (spent rest : RowSet) : Type 0 where
   pub outcome : Result (Unit {0}) Fault
   pub told : Tells AnswersNothing outcome answer
-  pub none : NoVacuumIsOpen old.seats → FindsNoVacuum outcome old new
-  pub ended : (session : ℕ) → IsVacuumSeat old.seats session → (outcome ≡ Ok tt) × VacuumIsEnded g session old new
+  pub none : NoVacuumIsOpen old.seats → FindsNoVacuum outcome old new × (rest ≡ spent)
+  pub ended : (session : ℕ) → IsVacuumSeat old.seats session → (outcome ≡ Ok tt) × VacuumIsEnded g session old new × (rest ≡ old.rows)
 
 -- The next part of a commit was to be done. It leaves contents, calls and open scans as they are, and what is
 -- durable.
@@ -188,11 +189,11 @@ abbrev pub IsUnknown : ℕ → Type 0
 IsUnknown what =
     (what ≢ 1) × (what ≢ 2) × (what ≢ 3) × (what ≢ 4) × (what ≢ 5) × (what ≢ 6) × (what ≢ 7) × (what ≢ 8) × (what ≢ 9) × (what ≢ 11) × (what ≢ 12) × (what ≢ 13) × (what ≢ 14) × (what ≢ 15)
 
--- What is answered to a call of an open index, and what has become of it and of the rows that were named. 1
--- inserts, 2 opens a scan, 3 begins one anew, 4 closes one, 5 names a row, 6 deletes the entries of the rows
--- that were named, 7 cleans up, 8 commits, 9 makes a checkpoint. In parts, 11 begins to delete, 12 to clean
--- up, 13 goes on and 14 ends. 15 does the next part of a commit.
-pub record ServesCall {S : Type 0} (g : Ghosts S) (ask : Ask) (answer : Answer) (old new : Index S) (dead left : RowSet) : Type 0 where
+-- What is answered to a call of an open index, and what has become of it, of the rows that were named, and of
+-- those that are spent. 1 inserts, 2 opens a scan, 3 begins one anew, 4 closes one, 5 names a row, 6 deletes
+-- the entries of the rows that were named, 7 cleans up, 8 commits, 9 makes a checkpoint. In parts, 11 begins
+-- to delete, 12 to clean up, 13 goes on and 14 ends. 15 does the next part of a commit.
+pub record ServesCall {S : Type 0} (g : Ghosts S) (ask : Ask) (answer : Answer) (old new : Index S) (dead left spent rest : RowSet) : Type 0 where
   pub inserted : ask.what ≡ 1 → Inserts g ask answer old new ⊎ IsMisspelled (SpellsNoEntry ask) answer old new
   pub began : ask.what ≡ 2 → BeginsScan g ask answer old new ⊎ IsMisspelled (SpellsNoRange ask) answer old new
   pub begun_again : ask.what ≡ 3 → BeginsAgain g ask answer old new ⊎ IsMisspelled (SpellsNoRange ask) answer old new
@@ -205,13 +206,14 @@ pub record ServesCall {S : Type 0} (g : Ghosts S) (ask : Ask) (answer : Answer) 
   pub began_delete : ask.what ≡ 11 → BeginsDelete g dead answer old new × (left.rows ≡ None)
   pub began_cleanup : ask.what ≡ 12 → BeginsCleanup g answer old new
   pub went_on : ask.what ≡ 13 → GoesOn g ask.block answer old new
-  pub ended : ask.what ≡ 14 → EndsVacuum g answer old new
+  pub ended : ask.what ≡ 14 → EndsVacuum g answer old new spent rest
   pub advanced : ask.what ≡ 15 → Advances g answer old new
   pub unknown : IsUnknown ask.what → AnswersFault NoSession answer × (new ≡ old)
   -- where it says how many actions are durable, so many are
   pub durable : answer.is_durable ≡ true → (g.backing new.store).durable ≡ answer.number
   -- rows stay named but by the calls that name and take them
   pub kept : ask.what ≢ 5 → ask.what ≢ 6 → ask.what ≢ 11 → left ≡ dead
+  pub unspent : ask.what ≢ 14 → rest ≡ spent
   pub steps : Continues g.follows old.store new.store
 
 -- this holds of the index before and of that after; both are there
@@ -224,12 +226,17 @@ OfBoth P None new = ⊥
 abbrev pub AnswersSync : Answer → Type 0
 AnswersSync answer = (answer.status ≡ 0) ⊎ AnswersFault Io answer ⊎ AnswersFault NoSession answer
 
+-- this many of the rows were freed, or all if there were fewer
+pub record AreFreed (count : ℕ) (old new : RowSet) : Type 0 where
+  pub left : row_count new ≡ row_count old - count
+  pub fewer : (row : Row) → IsTrue (is_row_in new row) → IsTrue (is_row_in old row)
+
 -- What is answered to a call of a handle. 10 lets it go: what is left of it owns no file, and no memory but
--- its own block, which is C's to free. 16 syncs the file that the handle was given to sync. 17 frees rows of
--- a bulk delete that has ended. A handle without an index answers no other call.
-pub record IsServed {S : Type 0} (g : Ghosts S) (ask : Ask) (answer : Answer) (old new : Option (Index S)) (dead left : RowSet) : Type 0 where
-  pub let_go : ask.what ≡ 10 → (new ≡ None) × (left.rows ≡ None) × (answer.status ≡ 0)
-  pub synced : ask.what ≡ 16 → AnswersSync answer × (new ≡ old) × (left ≡ dead)
-  pub freed : ask.what ≡ 17 → (answer.status ≡ 0) × (new ≡ old) × (left ≡ dead)
-  pub empty : ask.what ≢ 10 → ask.what ≢ 16 → ask.what ≢ 17 → old ≡ None → AnswersFault NoSession answer × (new ≡ None) × (left ≡ dead)
-  pub served : ask.what ≢ 10 → ask.what ≢ 16 → ask.what ≢ 17 → IsSome old → OfBoth (λ before after. ServesCall g ask answer before after dead left) old new
+-- its own block, which is C's to free. 16 syncs the file that the handle was given to sync. 17 frees so many
+-- of the rows that are spent, as `block` says. A handle without an index answers no other call.
+pub record IsServed {S : Type 0} (g : Ghosts S) (ask : Ask) (answer : Answer) (old new : Option (Index S)) (dead left spent rest : RowSet) : Type 0 where
+  pub let_go : ask.what ≡ 10 → (new ≡ None) × (left.rows ≡ None) × (rest.rows ≡ None) × (answer.status ≡ 0)
+  pub synced : ask.what ≡ 16 → AnswersSync answer × (new ≡ old) × (left ≡ dead) × (rest ≡ spent)
+  pub freed : ask.what ≡ 17 → (answer.status ≡ 0) × (new ≡ old) × (left ≡ dead) × AreFreed ask.block spent rest
+  pub empty : ask.what ≢ 10 → ask.what ≢ 16 → ask.what ≢ 17 → old ≡ None → AnswersFault NoSession answer × (new ≡ None) × (left ≡ dead) × (rest ≡ spent)
+  pub served : ask.what ≢ 10 → ask.what ≢ 16 → ask.what ≢ 17 → IsSome old → OfBoth (λ before after. ServesCall g ask answer before after dead left spent rest) old new

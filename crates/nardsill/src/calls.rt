@@ -1,6 +1,6 @@
 //! The calls of an open index.
 
-ghost use Rattle.std.specs.Prelude.{◌≡◌, ◌⊎◌, ◌≢◌, None, Ok, Err, IfErr, OnOk, false, true};
+ghost use Rattle.std.specs.Prelude.{◌≡◌, ◌⊎◌, ◌≢◌, None, Ok, Err, IfErr, IfOk, OnOk, false, true};
 ghost use Rattle.page_action.specs.States.{Continues};
 ghost use Rattle.schedule.specs.TheoremKinds.{Forces, Checkpoints};
 ghost use Rattle.nardsill.specs.Asking.{SpellsNoEntry, SpellsNoRange};
@@ -23,7 +23,8 @@ use whole_calls::Inserted;
 /// Does what is asked, whatever it is.
 pub fn serve(handle: &mut Handle, ask: Ask) -> Answer
     ensures { IsServed ⟦<Store<FileDevice<Unknown>> as PageStore>⟧ ask result
-        handle.old.index handle.new.index handle.old.dead handle.new.dead }
+        handle.old.index handle.new.index handle.old.dead handle.new.dead
+        handle.old.spent handle.new.spent }
 {
     if ask.what == 10 {
         *handle = Handle::new(handle.alloc);
@@ -65,7 +66,7 @@ fn call(
     ask: &Ask,
 ) -> Answer
     ensures { ServesCall ⟦<Store<FileDevice<Unknown>> as PageStore>⟧ ask.now result
-        index.old index.new dead.old dead.new }
+        index.old index.new dead.old dead.new spent.old spent.new }
 {
     match ask.what {
         1 => insert(index, ask),
@@ -286,7 +287,7 @@ fn part_answer(outcome: Result<Option<VacuumStats>, Fault>) -> Answer
 // Ends what goes on in parts. Its rows are spent: those that were so before are freed.
 fn end_vacuum<S: PageStore>(index: &mut Index<S>, spent: &mut RowSet) -> Answer
     ensures steps { Continues S.follows index.old.store index.new.store }
-    ensures means { EndsVacuum S.PageStore result index.old index.new }
+    ensures means { EndsVacuum S.PageStore result index.old index.new spent.old spent.new }
     ensures quiet { result.is_durable ≡ false }
 {
     done(ended(index.end_vacuum(), spent))
@@ -295,7 +296,8 @@ fn end_vacuum<S: PageStore>(index: &mut Index<S>, spent: &mut RowSet) -> Answer
 // Takes the rows of a bulk delete that has ended.
 fn ended(outcome: Result<RowSet, Fault>, spent: &mut RowSet) -> Result<(), Fault>
     ensures ok { OnOk outcome (result ≡ Ok tt) }
-    ensures err { IfErr outcome (λ fault. result ≡ Err fault) }
+    ensures err { IfErr outcome (λ fault. (result ≡ Err fault) × (spent.new ≡ spent.old)) }
+    ensures taken { IfOk outcome (λ rows. spent.new ≡ rows) }
 {
     *spent = outcome?;
     Ok(())

@@ -27,6 +27,7 @@ impl Handle {
     pub fn new(alloc: Global) -> Handle
         ensures empty { result.index ≡ None }
         ensures none { result.dead.rows ≡ None }
+        ensures unspent { result.spent.rows ≡ None }
     {
         Handle {
             alloc,

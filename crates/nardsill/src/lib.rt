@@ -150,7 +150,7 @@ pub unsafe extern "C" fn nardsill_proved_call(at: *mut Shell, ask: Ask) -> Answe
     requires* { sem 𝓛 (lies_at the_row full_share at value) }
     ensures* { ∃ₛ (λ (v : Handle). sem 𝓛 (lies_at the_row full_share at v) ∗ ⌜ IsServed
         ⟦<Store<FileDevice<Unknown>> as PageStore>⟧ ask result
-        value.index v.index value.dead v.dead ⌝) }
+        value.index v.index value.dead v.dead value.spent v.spent ⌝) }
 {
     serve(unsafe { &mut *(at as *mut Handle) }, ask)
 }

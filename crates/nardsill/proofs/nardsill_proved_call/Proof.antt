@@ -89,15 +89,15 @@ nardsill_proved_call_spec 𝓤 𝓛 𝓜 𝓡 wired =
     (ensured 𝓛 callee.ended (callee.clauses 𝓛 𝓜.mem 𝓡.returns) (κ, tt) (x, (a, tt)) tt r)))) (id⊢ 𝓤 _) $ await ! tt $ pick ! (λ r.
     split ! $ move ! (1 ∷ []) $
     use1 𝓛 (some (λ (ls : Lasts callee.ended (κ, tt) (x, (a, tt))).
-    ‵ (lasts callee.ended (κ, tt) (x, (a, tt)) ls) ⊛ raw (fact 𝓤 (IsServed G a r h.index (ls.0).index h.dead (ls.0).dead)))) (id⊢ 𝓤 _) $ pick !
-    (λ ls. split ! $ move ! (1 ∷ []) $ heard ! (IsServed G a r h.index (ls.0).index h.dead (ls.0).dead) (λ told.
+    ‵ (lasts callee.ended (κ, tt) (x, (a, tt)) ls) ⊛ raw (fact 𝓤 (IsServed G a r h.index (ls.0).index h.dead (ls.0).dead h.spent (ls.0).spent)))) (id⊢ 𝓤 _) $ pick !
+    (λ ls. split ! $ move ! (1 ∷ []) $ heard ! (IsServed G a r h.index (ls.0).index h.dead (ls.0).dead h.spent (ls.0).spent) (λ told.
     fsplit ! $ move ! (1 ∷ []) $ drop ! $ fsplit ! $ move ! (1 ∷ []) $ drop ! $ move ! (1 ∷ []) $ split ! $ split ! $ lft_end ! tt $ move ! (1 ∷ []) $ drop ! $ move ! (0 ∷ 3 ∷ 2 ∷ []) $
     use3 𝓛 (later (‵ (part_at R full_share ls.0 b o))) (ref_back 𝓛 R κ γ ls.0 b o) $ await ! tt $ move ! (1 ∷ []) $
     peeks ! answer.the_row (Is answer.the_row) (shows 𝓛 answer.the_row) r (v ∷ []) (λ is. lands_as ! refl refl (((answer_laws.the_row_laws).lawful 𝓛).typed r (v ∷ []) is).0 $
     returns ! (look_at ! 0 refl) $ free_all ! refl $
     rewrite ! 1 (λ (q : Ptr). ‵ (lies_at R full_share q ls.0)) (sym e) refl $
-    use0 𝓛 (raw (fact 𝓤 (IsServed G a r h.index (ls.0).index h.dead (ls.0).dead))) (fact_i 𝓤 (IsServed G a r h.index (ls.0).index h.dead (ls.0).dead) (emp 𝓤) told) $ move ! (2 ∷ 0 ∷ []) $ join ! $
-    use1 𝓛 (raw (ex 𝓤 (λ (u : R.Denot). sep 𝓤 (sem 𝓛 (lies_at R full_share p u)) (fact 𝓤 (IsServed G a r h.index (u).index h.dead (u).dead)))))
-    (ex_i 𝓤 (λ (u : R.Denot). sep 𝓤 (sem 𝓛 (lies_at R full_share p u)) (fact 𝓤 (IsServed G a r h.index (u).index h.dead (u).dead))) ls.0) $
+    use0 𝓛 (raw (fact 𝓤 (IsServed G a r h.index (ls.0).index h.dead (ls.0).dead h.spent (ls.0).spent))) (fact_i 𝓤 (IsServed G a r h.index (ls.0).index h.dead (ls.0).dead h.spent (ls.0).spent) (emp 𝓤) told) $ move ! (2 ∷ 0 ∷ []) $ join ! $
+    use1 𝓛 (raw (ex 𝓤 (λ (u : R.Denot). sep 𝓤 (sem 𝓛 (lies_at R full_share p u)) (fact 𝓤 (IsServed G a r h.index (u).index h.dead (u).dead h.spent (u).spent)))))
+    (ex_i 𝓤 (λ (u : R.Denot). sep 𝓤 (sem 𝓛 (lies_at R full_share p u)) (fact 𝓤 (IsServed G a r h.index (u).index h.dead (u).dead h.spent (u).spent))) ls.0) $
     move ! (1 ∷ []) $ nothing ! $ nothing ! $ fjoin ! $ nothing ! $ fjoin ! $ nothing ! $
     by ! (leaves 𝓛 ended hs c z v r (tt, (tt, tt)) (tt, (tt, tt)))))))))))))
