@@ -79,7 +79,7 @@ dump_app = file_app (codes "dump")
 -- the program, of which a command is needed
 abbrev pub start_app : App
 start_app = let app = new_app (codes "btidx") in
-    record app { top = record app.top { subcommand_required = true; arg_required_else_help = true; disable_help_subcommand = true } }
+    record app { top = record app.top { subcommand_required = true; arg_required_else_help = true; disable_help_subcommand = true; has_version = true } }
 
 -- ... with the commands over an index in a file
 abbrev pub with_file_apps : App → App

@@ -12,6 +12,7 @@ use crate::running::RunSetting;
 use clap::{Arg, ArgAction, ArgMatches, Command, value_parser};
 use index_model::Limits;
 use std::alloc::{AllocError, Global};
+use text_forms::VERSION;
 
 // What the sizes of an index are, and what a unique one is.
 const ITEMS: &str = "Items that a page holds at most: 4 to 50";
@@ -52,6 +53,7 @@ fn start<'a>(alloc: Global) -> Made<'a>
 {
     let command = Command::new(alloc, "btidx")
         .about("A B-link tree index that survives crashes.")
+        .version(VERSION)
         .subcommand_required(true)
         .arg_required_else_help(true)
         .disable_help_subcommand(true)

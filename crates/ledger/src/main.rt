@@ -4,9 +4,10 @@
 use device::Unknown;
 use index_model::Fault;
 use ledger_lines::{ledger, refuse, refuse_words};
-use std::io::{BufReader, BufWriter};
+use std::io::{BufReader, BufWriter, Write};
 use std::process::ExitCode;
 use std::{env, io};
+use text_forms::{is_version, print_version};
 
 fn main(rt: HostRuntime) -> ExitCode {
     let mut err = rt.stderr();
@@ -14,6 +15,9 @@ fn main(rt: HostRuntime) -> ExitCode {
         Ok(words) => words,
         Err(error) => return ExitCode::from(refuse_words(&mut err, &error)),
     };
+    if is_version(words.as_slice()) {
+        return ExitCode::from(tell_version(&rt, &mut err));
+    }
     let Ok(mut input) = BufReader::new(rt.alloc(), rt.stdin()) else {
         return ExitCode::from(refuse(&mut err, Fault::NoMemory));
     };
@@ -29,6 +33,14 @@ fn main(rt: HostRuntime) -> ExitCode {
         &mut err,
     );
     ExitCode::from(ended.status)
+}
+
+// Prints the version, and answers the status.
+fn tell_version<E: Write>(rt: &HostRuntime, err: &mut E) -> u8 {
+    match print_version(&mut rt.stdout(), "ledger") {
+        Ok(()) => 0,
+        Err(_) => refuse(err, Fault::Io),
+    }
 }
 
 // The words of the command line.

@@ -20,6 +20,7 @@ use std::io::{self, BufRead, Write};
 use std::rt::Files;
 
 const USAGE: &str = "usage: ledger PATH
+       ledger --version
 
 Opens the index in this file, or makes one where there is no file, and answers each line of
 standard input at once: insert KEY ROW, delete ROW .., list FROM BELOW, vacuum, checkpoint, commit.

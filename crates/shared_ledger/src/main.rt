@@ -24,8 +24,10 @@ use std::sync::Wait;
 use std::thread::Threads;
 use std::time::Clock;
 use std::{env, io};
+use text_forms::{is_version, print_version};
 
 const USAGE: &str = "usage: shared_ledger PATH SESSIONS
+       shared_ledger --version
 
 Opens the index in this file, or makes one where there is no file. So many threads (1 to 64) draw lines of
 standard input, those of `ledger`, and answer each as it is done, behind the line's number.
@@ -119,6 +121,9 @@ fn main(rt: HostRuntime) -> ExitCode {
         Ok(words) => words,
         Err(error) => return ExitCode::from(refuse(&mut err, fault_of(&error))),
     };
+    if is_version(words.as_slice()) {
+        return ExitCode::from(tell_version(&rt, &mut err));
+    }
     let Some((path, sessions)) = asked(words.as_slice()) else {
         let _ = err.write_all(USAGE.as_bytes());
         return ExitCode::from(2);
@@ -132,6 +137,14 @@ fn main(rt: HostRuntime) -> ExitCode {
     match run(&rt, rt.alloc(), path, sessions, input, out) {
         Ok(()) => ExitCode::from(0),
         Err(fault) => ExitCode::from(refuse(&mut err, fault)),
+    }
+}
+
+// Prints the version, and answers the status.
+fn tell_version<E: Write>(rt: &HostRuntime, err: &mut E) -> u8 {
+    match print_version(&mut rt.stdout(), "shared_ledger") {
+        Ok(()) => 0,
+        Err(error) => refuse(err, fault_of(&error)),
     }
 }
 

@@ -8,7 +8,7 @@ use std::alloc::{AllocError, Global};
 use std::io;
 use std::test::*;
 use tests_player::{columns, filled, is_form_of, mark_seen, part, played, text};
-use text_forms::print_answer;
+use text_forms::{VERSION, print_answer};
 
 const PLAY: [&str; 3] = ["btidx", "play", "--help"];
 
@@ -68,6 +68,17 @@ fn read<'a>(
         }
     }
     Ok(None)
+}
+
+/// The version is printed as the name of the program and three numbers.
+#[test]
+fn version_is_printed(rt: HostRuntime) -> Result<(), Fail> {
+    let asked = played(&rt, &["btidx", "--version"], "");
+    let line = format!(in rt.alloc(); "btidx {VERSION}\n")?;
+    assert_eq!(rt; text(&asked.out), line.as_str());
+    assert_eq!(rt; text(&asked.err), "");
+    assert_eq!(rt; asked.status, 0);
+    Ok(())
 }
 
 /// Each line that the help shows is read, and each that is read is shown.
