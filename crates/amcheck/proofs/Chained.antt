@@ -32,15 +32,15 @@ number_cases keys h n (inr (inr (inr (inr (inr (inr (inr (inr a)))))))) = inr (i
 
 -- what the root's level asks
 too_much : (ix : Index) (depth : ℕ) (root : Option ℕ) (s : LeftContext) (block : ℕ) → IsRootAt ix depth root → depth ≡ 0 → block ≢ ix.root → (IsAfterRoot ix.root s → ⊥) → IsTooMuch root s block
-too_much ix depth None s block is top not_root not_behind = absurd (omega (arith, is, top))
-too_much ix depth (Some r) s block is top not_root not_behind = (
+too_much ix depth None s block is top not_root not_after_root = absurd (omega (arith, is, top))
+too_much ix depth (Some r) s block is top not_root not_after_root = (
   λ same. not_root (same ∙ is.1),
-  λ behind. not_behind (subst (λ (b : ℕ). IsAfterRoot b s) is.1 behind),
+  λ left_is_split. not_after_root (subst (λ (b : ℕ). IsAfterRoot b s) is.1 left_is_split),
 )
 
 too_many : (ix : Index) (depth : ℕ) (root : Option ℕ) (s : LeftContext) (block : ℕ) → IsRootAt ix depth root → IsTooMuch root s block → (depth ≡ 0) × (block ≢ ix.root) × (IsAfterRoot ix.root s → ⊥)
 too_many ix depth None s block is much = absurd much
-too_many ix depth (Some r) s block is much = (is.0, λ same. much.0 (same ∙ sym is.1), λ behind. much.1 (subst (λ (b : ℕ). IsAfterRoot b s) (sym is.1) behind))
+too_many ix depth (Some r) s block is much = (is.0, λ same. much.0 (same ∙ sym is.1), λ left_is_split. much.1 (subst (λ (b : ℕ). IsAfterRoot b s) (sym is.1) left_is_split))
 
 -- a page at this place of the chain
 place_same : {ix : Index} (h : Here ix) (depth place : ℕ) (s : LeftContext) (b : ℕ) → h.depth ≡ depth → h.place ≡ place
@@ -88,7 +88,7 @@ module _ (ix : Index) (keys : Bool) (depth : ℕ) (root : Option ℕ) (stops : L
       by (inr (inr (inr (inr (inr (inr (inr (inl a)))))))) = inr (inr (inr (inr (inr (inl (
         a.0,
         ap (λ (b : ℕ). (ix.at b).state) (sym told.0) ∙ a.1,
-        ap (λ (t : LeftContext). t.behind) (sym told.1) ∙ a.2,
+        ap (λ (t : LeftContext). t.left_is_split) (sym told.1) ∙ a.2,
       ))))))
       by (inr (inr (inr (inr (inr (inr (inr (inr a)))))))) = inr (inr (inr (inr (inr (inr (
         a.0,

@@ -15,7 +15,7 @@ high_at at (Some block) = (at block).high
 
 -- what the walk knew before this stop
 abbrev pub context_at : (ℕ → Node) → Stop → LeftContext
-context_at at s = record { low = high_at at s.low_at; left = s.left; behind = s.behind }
+context_at at s = record { low = high_at at s.low_at; left = s.left; left_is_split = s.left_is_split }
 
 -- the blocks of these stops
 abbrev pub stop_blocks : List Stop → List ℕ
@@ -55,7 +55,7 @@ IsWrong keys node root s block number =
     ⊎ ((number ≡ 5) × (node.state ≡ Live) × (Rises s.low node.high → ⊥))
     ⊎ ((number ≡ 6) × HasWrongItem s.low node)
     ⊎ ((number ≡ 10) × IsTooMuch root s block)
-    ⊎ ((number ≡ 12) × (node.state ≡ HalfDead) × (s.behind ≡ true))
+    ⊎ ((number ≡ 12) × (node.state ≡ HalfDead) × (s.left_is_split ≡ true))
     ⊎ ((number ≡ 13) × (keys ≡ true) × (IsUniqueNode node → ⊥))
 
 -- the least number of which this is so, if there is one

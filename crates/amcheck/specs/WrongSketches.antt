@@ -14,5 +14,5 @@ IsWrongSketch keys sketch root s block number =
     ⊎ ((number ≡ 5) × (sketch.state ≡ Live) × (Rises s.low sketch.high → ⊥))
     ⊎ ((number ≡ 6) × (IsNoneOrBeyond s.low sketch.least → ⊥))
     ⊎ ((number ≡ 10) × IsTooMuch root s block)
-    ⊎ ((number ≡ 12) × (sketch.state ≡ HalfDead) × (s.behind ≡ true))
+    ⊎ ((number ≡ 12) × (sketch.state ≡ HalfDead) × (s.left_is_split ≡ true))
     ⊎ ((number ≡ 13) × (keys ≡ true) × (sketch.unique ≡ false))

@@ -53,7 +53,7 @@ pub(crate) fn walk(
         block: begin,
         low_at: None,
         left: None,
-        behind: false,
+        left_is_split: false,
     };
     for _ in 0..pages.len() {
         if !is_on_level(pages, level, stop.block) {

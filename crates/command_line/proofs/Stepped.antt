@@ -86,10 +86,10 @@ module _ {S T : Type 0} (g : Ghosts S) (laws : Laws g) (rows : SetGhosts T) wher
           }
 
       -- ... and leaves fewer steps for the call
-      pub within_more : (before behind : ℕ) → before ≤ behind + 1 → answer ≡ Going → (g.state b.store).limits.pages ≤ 65536
+      pub within_more : (before after : ℕ) → before ≤ after + 1 → answer ≡ Going → (g.state b.store).limits.pages ≤ 65536
           → ForEachWorldHistory g rows a b (λ start history calls. HasStepsLeft g rows session before a b)
-          → ForEachWorldHistory g rows a c (λ start history calls. HasStepsLeft g rows session behind a c)
-      within_more before behind one_less going low within honest start history calls fits =
+          → ForEachWorldHistory g rows a c (λ start history calls. HasStepsLeft g rows session after a c)
+      within_more before after one_less going low within honest start history calls fits =
           let later = laws.follows_later b.store c.store (next b.store (laws.follows_same b.store)) in
           let most = within (later.honest honest) start history calls fits in
           let r = gone (later.honest honest) start history calls fits in

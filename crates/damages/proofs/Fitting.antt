@@ -39,7 +39,7 @@ module _ (page : Page) (admitted : IsPage page) (after_meta : 0 < page.block) (s
       by (Downlinks v) is k = k.links.ascends
 
   pub fits_here : (page.state ≢ Deleted) → (page.state ≡ Live → (Rises s.low page.high → ⊥) → ⊥) → (HasNotBeyond s.low (node_of page) → ⊥)
-      → (page.state ≡ HalfDead → s.behind ≡ true → ⊥)
+      → (page.state ≡ HalfDead → s.left_is_split ≡ true → ⊥)
       → FitsState page.state page.level s (node_of page)
   fits_here stands rises items dead = by page.state refl
     where
@@ -49,7 +49,7 @@ module _ (page : Page) (admitted : IsPage page) (after_meta : 0 < page.block) (s
         items_are page s.low admitted after_meta e (first_so s.low (entries_of page.items) (λ x there fails. items (inl (x, there, fails))))
             (second_so s.low (links_of page.items) ascending (λ item link bound pos there is fails. items (inr (item, link, bound, pos, there, is, fails)))),
       )
-      by HalfDead e = (let h = half_dead_is page admitted after_meta e in (h.level, h.entries, h.split, bool_so s.behind (dead e), h.high))
+      by HalfDead e = (let h = half_dead_is page admitted after_meta e in (h.level, h.entries, h.split, bool_so s.left_is_split (dead e), h.high))
       by Deleted e = absurd (stands e)
 
 pub page_there : (pages : List Page) (n : ℕ) → n < length pages → (page : Page) × (slice_get pages n ≡ Some page)
@@ -84,6 +84,6 @@ right_here pages h level stand sum none' =
             (fits_here p.0 own.0 after_meta (context h) (subst (λ (n : Node). n.state ≢ Deleted) here stands)
             (subst (λ (n : Node). n.state ≡ Live → (Rises (context h).low n.high → ⊥) → ⊥) here (λ live fails. none' 5 (inr (inr (inr (inr (inl (refl, live, fails))))))))
             (subst (λ (n : Node). HasNotBeyond (context h).low n → ⊥) here (λ has. none' 6 (inr (inr (inr (inr (inr (inl (refl, has)))))))))
-            (subst (λ (n : Node). n.state ≡ HalfDead → (context h).behind ≡ true → ⊥) here (λ dead behind. none' 12 (inr (inr (inr (inr (inr (inr (inr (inl (refl, dead, behind)))))))))))));
+            (subst (λ (n : Node). n.state ≡ HalfDead → (context h).left_is_split ≡ true → ⊥) here (λ dead left_is_split. none' 12 (inr (inr (inr (inr (inr (inr (inr (inl (refl, dead, left_is_split)))))))))))));
       };
     }

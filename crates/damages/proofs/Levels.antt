@@ -23,7 +23,7 @@ true_so true h = refl
 true_so false h = absurd (h (λ e. cc))
 
 after_so : (root : ℕ) (s : LeftContext) → ((IsAfterRoot root s → ⊥) → ⊥) → IsAfterRoot root s
-after_so root s h = (link_so s.left (Some root) (λ differ. h (λ b. differ b.0)), true_so s.behind (λ differ. h (λ b. differ b.1)))
+after_so root s h = (link_so s.left (Some root) (λ differ. h (λ b. differ b.0)), true_so s.left_is_split (λ differ. h (λ b. differ b.1)))
 
 -- page by page, the root's level has the root alone, or the root with an incomplete split and one page
 root_told : (at : ℕ → Node) (root : ℕ) (xs : List ℕ) → (xs ≢ []) → AreDistinct xs

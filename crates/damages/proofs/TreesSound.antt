@@ -25,7 +25,7 @@ live_rises Live level s n f e = f.0
 live_rises HalfDead level s n f e = absurd cc
 live_rises Deleted level s n f e = absurd f
 
-dead_clear : (state : PageState) (level : ℕ) (s : LeftContext) (n : Node) → FitsState state level s n → state ≡ HalfDead → s.behind ≡ false
+dead_clear : (state : PageState) (level : ℕ) (s : LeftContext) (n : Node) → FitsState state level s n → state ≡ HalfDead → s.left_is_split ≡ false
 dead_clear Live level s n f e = absurd cc
 dead_clear HalfDead level s n f e = f.3
 dead_clear Deleted level s n f e = absurd f
@@ -134,9 +134,9 @@ module _ (pages : List Page) (stand : StandAtTheirBlocks pages) (chain : ℕ →
         (λ leaf. page_links h.block on.after_meta on.in_use (omega arith)) (λ upper. page_entries h.block on.after_meta on.in_use (omega arith)) (node h).state place_fits has'
 
     not_more : h.depth ≡ 0 → h.block ≢ ix.root → (IsAfterRoot ix.root (context h) → ⊥) → ⊥
-    not_more top not_root not_behind = elim (root_part at ix.root xs h.place h.block root_level (there pages chain t h)) [
+    not_more top not_root not_after_root = elim (root_part at ix.root xs h.place h.block root_level (there pages chain t h)) [
       | inl is ↦ not_root is
-      | inr b ↦ not_behind (subst (IsAfterRoot ix.root) (sym (context_is pages chain t h)) b)
+      | inr b ↦ not_after_root (subst (IsAfterRoot ix.root) (sym (context_is pages chain t h)) b)
     ]
       where
         root_level : IsRootLevel at ix.root xs
@@ -200,9 +200,9 @@ module _ (pages : List Page) (stand : StandAtTheirBlocks pages) (chain : ℕ →
         let upper : suc (ix.top - h.depth) ≡ ix.top - (h.depth - 1) = omega arith in
         let context_told = context_is pages chain t h in
         let alive = live_so (node h).state (ix.top - h.depth) (context h) (node h) place_fits (λ dead. not_unlinked (inl dead)) in
-        let clear = bool_so (context h).behind (λ behind. not_unlinked (inr behind)) in
+        let clear = bool_so (context h).left_is_split (λ left_is_split. not_unlinked (inr left_is_split)) in
         let among = is_due at first_context xs h.place own
-        (there pages chain t h) refl alive (ap (λ (s : LeftContext). s.behind) (sym context_told) ∙ clear) in
+        (there pages chain t h) refl alive (ap (λ (s : LeftContext). s.left_is_split) (sym context_told) ∙ clear) in
         had_none (had at first_context (chain (ix.top - (h.depth - 1))) own
         (subst (λ (l : ℕ). IsDownlinkAmong own (downlinks at first_context (chain l))) upper
         (subst (IsDownlinkAmong own) (sym (t.parents (ix.top - h.depth) (omega arith))) among)))
@@ -236,7 +236,7 @@ module _ (pages : List Page) (stand : StandAtTheirBlocks pages) (chain : ℕ →
       where
         differ : Live ≡ HalfDead → ⊥
         differ e = cc
-    leads_to_linked i child same (inr behind) = true≢false (sym behind ∙ ap (λ (s : LeftContext). s.behind) (child_context i child same) ∙ (item_due i).clear)
+    leads_to_linked i child same (inr left_is_split) = true≢false (sym left_is_split ∙ ap (λ (s : LeftContext). s.left_is_split) (child_context i child same) ∙ (item_due i).clear)
 
   -- no page has two downlinks
   module _ (h : Here ix) (i : Item h) (page : Here ix) (first : Item page) (same : first.link.child ≡ i.link.child) where

@@ -166,11 +166,11 @@ HasNotBeyond low node =
 
 -- right after the root with an incomplete split
 abbrev pub IsAfterRoot : ℕ → LeftContext → Type 0
-IsAfterRoot root context = (context.left ≡ Some root) × (context.behind ≡ true)
+IsAfterRoot root context = (context.left ≡ Some root) × (context.left_is_split ≡ true)
 
 -- half-dead, or right after a page with an incomplete split: a page without a downlink
 abbrev pub IsUnlinked : {ix : Index} → Here ix → Type 0
-IsUnlinked h = ((node h).state ≡ HalfDead) ⊎ ((context h).behind ≡ true)
+IsUnlinked h = ((node h).state ≡ HalfDead) ⊎ ((context h).left_is_split ≡ true)
 
 -- an earlier item, on a level above, an earlier page or the same one, that leads to the same child
 pub record IsSecond {ix : Index} {h : Here ix} (i : Item h) : Type 0 where
@@ -196,7 +196,7 @@ IsOfChain {ix} keys h number =
     ⊎ ((number ≡ 5) × ((node h).state ≡ Live) × (Rises (context h).low (node h).high → ⊥))
     ⊎ ((number ≡ 6) × HasNotBeyond (context h).low (node h))
     ⊎ ((number ≡ 10) × (h.depth ≡ 0) × (h.block ≢ ix.root) × (IsAfterRoot ix.root (context h) → ⊥))
-    ⊎ ((number ≡ 12) × ((node h).state ≡ HalfDead) × ((context h).behind ≡ true))
+    ⊎ ((number ≡ 12) × ((node h).state ≡ HalfDead) × ((context h).left_is_split ≡ true))
     ⊎ ((number ≡ 13) × (keys ≡ true) × (IsUniqueNode (node h) → ⊥))
 
 -- ... of a page among its parents and children,

@@ -41,10 +41,10 @@ IsPlaceable limits used block = (block ≤ used) × (block < limits.pages)
 
 -- an act may change the page beside those after it: it may be written, at a block that is in use or the next
 -- unused one, which none of them names
-pub record IsActableBeside (limits : Format) (used : ℕ) (page : Page) (behind : List Page) : Type 0 where
+pub record IsActableBeside (limits : Format) (used : ℕ) (page : Page) (rest : List Page) : Type 0 where
   pub writable : IsWritable limits page
   pub placeable : IsPlaceable limits used page.block
-  pub apart : IsApartFrom page.block behind
+  pub apart : IsApartFrom page.block rest
 
 -- the pages of an act: each may be written, at a block that is in use or the next unused one; no block is
 -- named twice

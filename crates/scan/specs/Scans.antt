@@ -69,8 +69,8 @@ abbrev pub moved_to : ScanOp → Position → ScanOp
 moved_to op position = record op { at = At position; leaf = None }
 
 -- a scan that has read a leaf, and has copied these entries
-abbrev pub behind : ScanOp → Option Bound → Option ℕ → List Entry → ScanOp
-behind op high right copied = record op {
+abbrev pub after_reading : ScanOp → Option Bound → Option ℕ → List Entry → ScanOp
+after_reading op high right copied = record op {
   at = after_leaf high right op.range.below;
   frontier = frontier_past op.frontier high;
   copied = record { items = copied };

@@ -160,7 +160,7 @@ module _ (old : State) (sets : DeadSets) (start : Entry → Bool) (history : Lis
       ascending = tt;
       matched = λ e h. absurd cc;
       was_there = λ e h. absurd cc;
-      complete = λ e behind match through. absurd (not_before range e match behind);
+      complete = λ e is_after match through. absurd (not_before range e match is_after);
       reached = λ e h. absurd cc;
       next_page = λ e not. tt;
     };

@@ -169,9 +169,9 @@ after_more g before after old mid new result read acts = record {
 }
 
 -- the whole step, from its readings on
-pub behind : {S : Type 0} (g : Ghosts S) (before after : FinishOp) (old mid new : S) (result : Result FinishStep Fault) → HasRead g old mid → ((g.backing old).stopped ≡ true → ⊥)
+pub follows_read : {S : Type 0} (g : Ghosts S) (before after : FinishOp) (old mid new : S) (result : Result FinishStep Fault) → HasRead g old mid → ((g.backing old).stopped ≡ true → ⊥)
     → FinishActs g before after mid new result → FinishSteps g before after old new result
-behind g before after old mid new result read runs acts =
+follows_read g before after old mid new result read runs acts =
     let all = after_more g before after old mid new result read acts in
     record {
       steps = all.steps;

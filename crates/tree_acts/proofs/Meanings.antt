@@ -163,7 +163,7 @@ trail_is_short_here st start level block moves h trail =
 -- what is fit for an aim is fit for one that looks farther
 wider : (aim farther : Bound → Bool) (clear clear' : Bool) (s : LeftContext) → ((b : Bound) → aim b ≡ true → farther b ≡ true) → (clear' ≡ true → clear ≡ true)
     → is_fit aim clear s ≡ true → is_fit farther clear' s ≡ true
-wider aim farther clear clear' s more eased fit = go clear clear' s.behind s.low eased fit
+wider aim farther clear clear' s more eased fit = go clear clear' s.left_is_split s.low eased fit
   where
     low : (l : Option Bound) → is_beyond aim l ≡ true → is_beyond farther l ≡ true
     low None p = refl
@@ -196,7 +196,7 @@ own_high : (at : ℕ → Node) (level : ℕ) (s : LeftContext) (xs : List ℕ) (
     → IsFitOn at s xs (is_fit aim clear) b → IsFitOn at s xs (is_fit (bound_aim high) clear) b
 own_high at level s [] aim clear b high run alive is i = absurd i
 own_high at level s (x ∷ xs) aim clear b high run alive is (inr i) = inr (own_high at level (past x (at x) s) xs aim clear b high run.1 alive is i)
-own_high at level s (x ∷ xs) aim clear b high run alive is (inl h) = inl (h.0, go clear s.behind s.low (below s.low rises) h.1)
+own_high at level s (x ∷ xs) aim clear b high run alive is (inl h) = inl (h.0, go clear s.left_is_split s.low (below s.low rises) h.1)
   where
     fits : FitsState Live level s (at x)
     fits = subst (λ (st : PageState). FitsState st level s (at x)) (subst (λ (c : ℕ). (at c).state ≡ Live) (h.0) alive) run.0.fits

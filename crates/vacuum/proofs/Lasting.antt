@@ -23,8 +23,8 @@ same_page pages block a b x y = (let k : Some a ≡ Some b = sym x ∙ y in cc)
 module _ (effect : Option Effect) (old new : State) (cursor : ℕ) (backtrack : Option Backtrack) (stay : LeafPagesStay effect old new) (went : WentBackFromLeaf old cursor backtrack) where
   -- the right half of a leaf to come is to come
   half_comes : (n : ℕ) → ((page : Page) → IsLeafAt old.pages n page → ⊥) → (n < last_read cursor backtrack → BlockIsToCome new cursor backtrack n) → BlockIsToCome new cursor backtrack n
-  half_comes n free behind = elim (cases_lt n (last_read cursor backtrack)) [
-    | inl lt ↦ behind lt
+  half_comes n free was_read = elim (cases_lt n (last_read cursor backtrack)) [
+    | inl lt ↦ was_read lt
     | inr ge ↦ ahead (beyond backtrack went ge)
   ]
     where

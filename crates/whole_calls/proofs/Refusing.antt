@@ -515,23 +515,23 @@ called_wider g session request old at vacuums none has_none SessionBusy h = absu
 called_wider g session request old at vacuums none has_none fault h = h
 
 -- the call's end leaves of all this what was
-pub gone_behind : {S : Type 0} (g : Ghosts S) (session least_room : ℕ) (full : Bool) (old : StoreAndSlots S) (mid new : S)
+pub gone_after : {S : Type 0} (g : Ghosts S) (session least_room : ℕ) (full : Bool) (old : StoreAndSlots S) (mid new : S)
     → g.backing new ≡ g.backing mid → (g.state new).acts ≡ (g.state mid).acts → (g.state new).frames ≡ (g.state mid).frames
     → causes_of_gone g session least_room full old new ≡ causes_of_gone g session least_room full old mid
-gone_behind g session least_room full old mid new backing acts frames = rw (backing, acts, frames) refl
+gone_after g session least_room full old mid new backing acts frames = rw (backing, acts, frames) refl
 
 pub asked_after : {S : Type 0} (g : Ghosts S) (session least_room : ℕ) (number : Option ℕ) (full : Bool) (ask : Ask) (old : StoreAndSlots S) (mid new : S) → LeavesAll g session mid new
     → causes_of_asked g session least_room number full ask old new ≡ causes_of_asked g session least_room number full ask old mid
 asked_after g session least_room number full (AskInsert e) old mid new leaves =
     ap (λ (no_block : Bool). causes_of_inserted g session least_room true (λ r. (g.state new).limits.unique) no_block (is_tall (g.state new)) old new)
     (blocks_same session number (g.state mid) (g.state new) leaves.state.limits leaves.state.pages leaves.state.counted (leaves.numbers number))
-    ∙ behind (has_no_block session number (g.state mid))
+    ∙ leaves_same (has_no_block session number (g.state mid))
   where
-    behind : (no_block : Bool) → causes_of_inserted g session least_room true (λ r. (g.state new).limits.unique) no_block (is_tall (g.state new)) old new
+    leaves_same : (no_block : Bool) → causes_of_inserted g session least_room true (λ r. (g.state new).limits.unique) no_block (is_tall (g.state new)) old new
         ≡ causes_of_inserted g session least_room true (λ r. (g.state mid).limits.unique) no_block (is_tall (g.state mid)) old mid
-    behind no_block = rw (leaves.backing, leaves.state.acts, leaves.state.frames, leaves.state.limits, leaves.state.pages) refl
-asked_after g session least_room number full (AskScan range) old mid new leaves = gone_behind g session least_room false old mid new leaves.backing leaves.state.acts leaves.state.frames
-asked_after g session least_room number full ask old mid new leaves = gone_behind g session least_room full old mid new leaves.backing leaves.state.acts leaves.state.frames
+    leaves_same no_block = rw (leaves.backing, leaves.state.acts, leaves.state.frames, leaves.state.limits, leaves.state.pages) refl
+asked_after g session least_room number full (AskScan range) old mid new leaves = gone_after g session least_room false old mid new leaves.backing leaves.state.acts leaves.state.frames
+asked_after g session least_room number full ask old mid new leaves = gone_after g session least_room full old mid new leaves.backing leaves.state.acts leaves.state.frames
 
 -- asking a scan for its next entry alone isn't refused
 pub next_caused : (at : Circumstances) (sets : DeadSets) (op : Op) (range : Range) (answer : Answer) → asked_of sets op ≡ AskScan range → AnswersNext (Some op) answer → IsCaused at answer

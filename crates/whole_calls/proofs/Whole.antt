@@ -66,7 +66,7 @@ module _ {S : Type 0} {g : Ghosts S} (laws : Laws g) {start : Entry → Bool} {s
       let then_call = noted_after call (length y.history) far.0 in
       let then_runs = gone_runs number call far.0 y last last far.1 session runs in
       let up_to = lasts_then first finish.gone.lasts in
-      let behind = later_of laws finish.lasts in
+      let then_later = later_of laws finish.lasts in
       let full = is_full_vacuum (slot_of last.slots session) in
       let asked : then_call.ask ≡ call.ask = same_ask call (length y.history) far.0 in
       let number_is : start_number (g.state last.store) session ≡ Some (g.state x.store).begun =
@@ -74,7 +74,7 @@ module _ {S : Type 0} {g : Ghosts S} (laws : Laws g) {start : Entry → Bool} {s
       let came = subst (λ (a : Ask).
       IsCaused (causes_of_asked g session least_room (start_number (g.state last.store) session) full a (here_at last) z.store) answer) asked (finish.step.caused number then_call then_runs) in
       let came_so = subst (λ (n : Option ℕ). IsCaused (causes_of_asked g session least_room n full call.ask (here_at last) z.store) answer) number_is came in
-      cause_wider _ _ (asked_wider g session least_room (here_at x) (here_at last) z.store (later_of laws up_to) behind.failures
+      cause_wider _ _ (asked_wider g session least_room (here_at x) (here_at last) z.store (later_of laws up_to) then_later.failures
       (busier_of up_to) (Some (g.state x.store).begun) full false call.ask (has_room are)) answer came_so
 
   -- what it tells at its end

@@ -25,7 +25,7 @@ ghost use Rattle.whole_calls.specs.OneStep.{MakesRoom};
 ghost use Rattle.whole_calls.specs.Parts.{RunsUnlessLast};
 ghost use Rattle.whole_calls.specs.Refusing.{InsertCallIsCaused};
 ghost use Rattle.whole_calls.specs.Stepping.{RoomMeans, BeginIsRun, StepIsRun, FinishIsRun, RequestIsRun};
-ghost use Rattle.whole_calls.specs.Meanings.{RoomIsMade, MayAnswer, MayComeTo, EndMeans, left_behind, outcome_of, begun_of, begin_outcome, room_outcome};
+ghost use Rattle.whole_calls.specs.Meanings.{RoomIsMade, MayAnswer, MayComeTo, EndMeans, outcome_at_fault, outcome_of, begun_of, begin_outcome, room_outcome};
 
 use crate::inserted::Inserted;
 use index_model::{DeadRows, Entry, Fault};
@@ -228,7 +228,7 @@ pub(crate) fn run_call<S: PageStore, T: DeadRows>(
 // What an insert answers to this fault. If its entry is added, the fault stands in `unfinished`. Else the
 // insert is refused.
 fn refused(added: Option<u64>, fault: Fault) -> Result<Inserted, Fault>
-    ensures { result ≡ left_behind added fault }
+    ensures { result ≡ outcome_at_fault added fault }
 {
     match added {
         Some(action) => Ok(Inserted {

@@ -4,7 +4,7 @@ use Rattle.page_action.specs.Stored.{IsStored}
 use Rattle.descent.proofs.Looking.{if_err}
 use Rattle.descent.specs.declared.position.NextPage.TheVariants.{Going, Here}
 use Rattle.scan.proofs.Imports.{and_parts, HasCause, is_among, IsAscending, Entry, sizes_of, Limits, pinned, entries_of, Page, State, IsLater, with_table, IsCopiedFrom, frontier_aim, IsLeafAt}
-use Rattle.scan.proofs.Imports.{LeadsTo, HasCover, place_inside, IsOnDescent, LeadsToNext, LeadsStraight, DescentIsShorter, IsShorter, IsArrived, Position, ScanAt, waiting, behind, without_leaf}
+use Rattle.scan.proofs.Imports.{LeadsTo, HasCover, place_inside, IsOnDescent, LeadsToNext, LeadsStraight, DescentIsShorter, IsShorter, IsArrived, Position, ScanAt, waiting, after_reading, without_leaf}
 use Rattle.scan.proofs.Imports.{causes_of_scanning, ScanStands, ScanInvariant, ScanWaits, IsUnderway, LeafIsRead, scan_straight_steps, ScanIsStraight, ScanCountsDown, scan_left, AtEachMoment}
 use Rattle.scan.proofs.Imports.{Ready, ScanOp}
 use Rattle.scan.proofs.Arriving.{leaf_has_entries, other_items, live_leaf, scan_has_room}
@@ -145,13 +145,13 @@ returns-in-Entries-clause-all g c =
     let position : Position = c.args.position in
     let page : Page = c.view-page.result.now in
     let es : List Entry = c.take.new.self.copied.items in
-    let taken : c.take.new.self ≡ behind before page.high page.right es = c.take.ensures.op in
+    let taken : c.take.new.self ≡ after_reading before page.high page.right es = c.take.ensures.op in
     let is : new ≡ with_table old (pinned (without_leaf old.table before.session before.leaf) before.session position.block) =
     subst (λ (op : ScanOp).
     new ≡ with_table (g.S.PageStore.state c.read_shared.new.store)
     (pinned (without_leaf (g.S.PageStore.state c.read_shared.new.store).table op.session op.leaf) op.session position.block)) taken c.stand_on.ensures.state
     ∙ ap (λ (st : State). with_table st (pinned (without_leaf st.table before.session before.leaf) before.session position.block)) c.read_shared.ensures.state in
-    let op_is : after ≡ behind (record before { leaf = Some position.block }) page.high page.right es =
+    let op_is : after ≡ after_reading (record before { leaf = Some position.block }) page.high page.right es =
     c.stand_on.ensures.op ∙ ap (λ (op : ScanOp). record op { leaf = Some position.block }) taken in
     let arrived : IsArrived page (frontier_aim before.frontier) = c.lead.ensures.here (c.in-Some-Here.is ∙ ap Some c.in-Some-Here.field-0-is) in
     let many : length es ≤ 50 = c.take.ensures.many in
