@@ -6,7 +6,7 @@ use Rattle.std.proofs.Common.{◌≡◌, ◌||◌, ℕ, zero, suc, ◌+◌, ◌-
 use Rattle.std.proofs.Math.Seq.{take-append-add}
 use Rattle.index_model.proofs.Ascending.{same_entry-self}
 use Rattle.whole_calls.specs.Giving.{Becomes, SessionGivenMeans, given_outcome}
-use Rattle.access_method.proofs.Refusals.{limits_stay}
+use Rattle.access_method.proofs.Refusals.{format_stays}
 use Rattle.access_method.proofs.Imports.{IfOk, IfErr, OnOk, unwrap_or, HasCause, causes_of_forced, with_row, Answer, Begun, Going, Added, Ready, Done, Finished, Gave, Ended, Forced, Flushed}
 use Rattle.access_method.proofs.Imports.{Checkpointed, Refused, Kind, MaintainsStore, Upkeep, Forces, Flushes, Checkpoints, kind_of, kept_answer, IsOfSession, AnswersUpkeep, StoreIsKept, or_left, or_right}
 use Rattle.access_method.proofs.Imports.{ForEachHistory, Runs, Fits, Event, IsSameHistory, CallIsRun, goes_by, keeps_silent, take_at, length-replicate, Add, ThereAtSomeMoment, Action, KeysDiffer}
@@ -74,7 +74,7 @@ told_or_kept g entry (Ok inserted) came old new start history calls fits r =
     record {
       was_absent = absent;
       key_was_absent = λ unique. key_was_free (has_entry g old.store) (has_entry g new.store) entry grown absent
-          (r.ran.fits.explains.keyed (ap (λ (f : Format). f.unique) (limits_stay g 63 (InsertMeans 63 entry (Ok inserted)) came old new start history calls r) ∙ unique)).keys;
+          (r.ran.fits.explains.keyed (ap (λ (f : Format). f.unique) (format_stays g 63 (InsertMeans 63 entry (Ok inserted)) came old new start history calls r) ∙ unique)).keys;
       contents = grown;
       since = (let a = t.action_is in let b : (g.state old.store).acts ≡ length history = fits.explains.count in omega (arith, a, b));
       until = (

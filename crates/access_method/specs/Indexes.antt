@@ -178,7 +178,7 @@ has_entry g store e = entry_on_live_leaf (g.state store).pages e
 -- entry; and the action that added it is one since
 pub record IsInserted {S : Type 0} (g : Ghosts S) (entry : Entry) (inserted : Inserted) (old new : S) : Type 0 where
   pub was_absent : has_entry g old entry ≡ false
-  pub key_was_absent : (g.state old).limits.unique ≡ true → (row : Row) → has_entry g old (with_row entry row) ≡ false
+  pub key_was_absent : (g.state old).format.unique ≡ true → (row : Row) → has_entry g old (with_row entry row) ≡ false
   pub contents : (e : Entry) → has_entry g new e ≡ (same_entry entry e || has_entry g old e)
   pub since : (g.state old).acts < inserted.action
   pub until : inserted.action ≤ (g.state new).acts
@@ -242,10 +242,10 @@ abbrev pub AnswersScan : ℕ → Result (Option Entry) Fault → (Entry → Bool
 AnswersScan session result start history calls = (number : ℕ) (call : Call) (range : Range) → IsRunningCall calls session number call → call.ask ≡ AskScan range
     → GivesRight start history range call result
 
--- an index of these limits, fitted by the contents of these pages, no action and no call, which keeps that
+-- an index of this format, fitted by the contents of these pages, no action and no call, which keeps that
 -- history; no token is open
-pub record IndexBegins {D : Type 0} (d : DeviceGhosts D) (g : Ghosts (Store D d)) (limits : Format) (pages : List Page) (index : Index (Store D d)) : Type 0 where
-  pub limits_are : (state_of d index.store).limits ≡ limits
+pub record IndexBegins {D : Type 0} (d : DeviceGhosts D) (g : Ghosts (Store D d)) (format : Format) (pages : List Page) (index : Index (Store D d)) : Type 0 where
+  pub format_is : (state_of d index.store).format ≡ format
   pub fits : IndexFits g index (entry_on_live_leaf pages) [] []
   pub keeps : IndexKeeps g index (entry_on_live_leaf pages) [] []
   pub closed : (token : ScanToken) → seat_of index.seats token ≡ None

@@ -334,7 +334,7 @@ impl<S: PageStore> Index<S> {
             ≡ (S.state self.old.store).acts) }
         ensures alive { OnOk result ((S.backing self.new.store).stopped ≡ false) }
         ensures room { OnOk result
-            (LogIsClosed (S.state self.old.store).limits (S.backing self.new.store)) }
+            (LogIsClosed (S.state self.old.store).format (S.backing self.new.store)) }
         ensures cause { IfErr result
             (HasCause (causes_of_forced (S.backing self.old.store) (S.backing self.new.store))) }
         ensures tokens { SameTokens self.old self.new }
@@ -345,7 +345,7 @@ impl<S: PageStore> Index<S> {
     /// What the index is: its sizes, its pages, and whether it has stopped. It makes no call of the device,
     /// and goes over the numbers of the blocks in use.
     pub fn info(&self) -> IndexInfo
-        ensures limits { result.limits ≡ sizes_of (S.state self.now.store).limits }
+        ensures limits { result.limits ≡ sizes_of (S.state self.now.store).format }
         ensures used { result.pages_used ≡ length (S.state self.now.store).pages }
         ensures deleted { result.pages_deleted ≡ deleted_count (S.state self.now.store)
             (length (S.state self.now.store).pages) }
@@ -644,18 +644,18 @@ impl<D: Device> Index<Store<D>> {
         // An index whose pages are a B-link tree, of a unique one keyed, is opened with them, or refused for
         // want of memory or of the device.
         ensures begins { IsTrue (D.is_honest (index_device D.Device result)) → AreFrames frames
-            → (limits : Format) (pages : List Page)
-            → HasIndex limits pages (D.trace device).now.seen → IsTreeFor limits pages
-            → MatchResult result (IndexBegins D.Device ⟦<Store<D> as PageStore>⟧ limits pages)
+            → (format : Format) (pages : List Page)
+            → HasIndex format pages (D.trace device).now.seen → IsTreeFor format pages
+            → MatchResult result (IndexBegins D.Device ⟦<Store<D> as PageStore>⟧ format pages)
             (λ refused. IsNoMemoryOrIo refused.fault) }
         // It has as many frames as were asked for, 16 or more.
         ensures frames { IfOk result (λ index. (state_of D.Device index.store).frames ≡ frames) }
         ensures range { OnOk result (AreFrames frames) }
         // A crash at each moment since leaves the same index, whatever was answered.
         ensures moments { IsTrue (D.is_honest (index_device D.Device result))
-            → (limits : Format) (pages : List Page)
-            → HasIndex limits pages (D.trace device).now.seen
-            → AtEachMoment (CrashesToPages limits pages) (D.trace device)
+            → (format : Format) (pages : List Page)
+            → HasIndex format pages (D.trace device).now.seen
+            → AtEachMoment (CrashesToPages format pages) (D.trace device)
             (D.trace (index_device D.Device result)) }
         ensures len { length (D.trace (index_device D.Device result)).now.seen
             ≡ length (D.trace device).now.seen }
@@ -687,7 +687,7 @@ impl<D: Device> Index<Store<D>> {
             → IndexKeeps ⟦<Store<D> as PageStore>⟧ self.now start history calls
             → (image : List ℕ) → MayHaveCrashedTo (held_by D.Device first).trace
             (held_by D.Device self.now.store).trace image
-            → IsIndexAfterPrefix (state_of D.Device self.now.store).limits start history
+            → IsIndexAfterPrefix (state_of D.Device self.now.store).format start history
             (backing_of (held_by D.Device first)).durable image }
     {}
 

@@ -23,7 +23,7 @@ pub record RoomIsReady (room : Room) (used : ℕ) : Type 0 where
 -- model those of the store
 pub record PagesAreRead (st : State) (backing : Backing) (pages : List Page) : Type 0 where
   pub count : length pages ≡ length st.pages
-  pub stored : AreStored st.limits 0 pages
+  pub stored : AreStored st.format 0 pages
   pub same : backing.honest ≡ true → pages ≡ st.pages
 
 -- the blocks below this number, in order

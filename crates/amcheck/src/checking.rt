@@ -41,7 +41,7 @@ pub(crate) fn check_by<
     requires finds { FindsFirst (F.post find) }
     ensures judged { JudgesPages S.PageStore false result store.old store.new }
     ensures levels { (S.backing store.new).honest ≡ true
-        → OnOk result (HasLevelsFor (S.state store.old).limits (S.state store.old).pages) }
+        → OnOk result (HasLevelsFor (S.state store.old).format (S.state store.old).pages) }
 {
     let used = store.used();
     let keys = store.format().unique;
@@ -71,7 +71,7 @@ pub(crate) fn check_parents_by<
     requires finds { FindsFirst (F.post find) }
     ensures judged { JudgesPages S.PageStore true result store.old store.new }
     ensures tree { (S.backing store.new).honest ≡ true
-        → OnOk result (IsTreeFor (S.state store.old).limits (S.state store.old).pages) }
+        → OnOk result (IsTreeFor (S.state store.old).format (S.state store.old).pages) }
 {
     let used = store.used();
     let keys = store.format().unique;

@@ -121,7 +121,7 @@ AnswersFirst d g is_in input old new before after =
 -- them waits in the log.
 pub record IsClosed {D : Type 0} (d : DeviceGhosts D) (g : Ghosts (Store D d)) (last : Index (Store D d)) (device : D) : Type 0 where
   pub stands : StaysOnDevice d g (state_of d last.store).acts last device
-  pub empties : IsLastOver d g last device (IsAtRest g (state_of d last.store).limits)
+  pub empties : IsLastOver d g last device (IsAtRest g (state_of d last.store).format)
 
 -- ... whose last checkpoint was refused with this fault, which has its cause
 abbrev pub IsClosingRefused : {D : Type 0} (d : DeviceGhosts D) → Ghosts (Store D d) → Fault → Index (Store D d) → D → Type 0

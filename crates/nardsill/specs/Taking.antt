@@ -19,8 +19,8 @@ use Rattle.access_method.specs.declared.rows.RowSet.{RowSet}
 -- where a file, which held these bytes for each length that it might have, held an index whose pages are a
 -- B-link tree, of a unique one keyed, it is opened with them
 abbrev pub BeginsWithFile : {D : Type 0} (d : DeviceGhosts D) → Ghosts (Store D d) → (ℕ → List ℕ) → Index (Store D d) → Type 0
-BeginsWithFile d g held index = IsTrue (d.is_honest (device_of d index.store)) → (limits : Format) (pages : List Page)
-    → HasIndex limits pages (bytes_before held (d.trace (device_of d index.store))) → IsTreeFor limits pages → IndexBegins d g limits pages index
+BeginsWithFile d g held index = IsTrue (d.is_honest (device_of d index.store)) → (format : Format) (pages : List Page)
+    → HasIndex format pages (bytes_before held (d.trace (device_of d index.store))) → IsTreeFor format pages → IndexBegins d g format pages index
 
 -- Where 0 is answered there is an index, which is the file's; else a fault of opening is told, and the handle
 -- is as it was. The rows that were named stay.

@@ -25,10 +25,10 @@ dead_gone : {s : PageState} → s ≡ HalfDead → s ≡ Deleted → ⊥
 dead_gone a b = cc
 
 admitted_at : (st : State) (block : ℕ) (page : Page) → HasTree st → slice_get st.pages block ≡ Some page → IsPage page
-admitted_at st block page has found = (stored_page st.limits block st.pages page has.stored found).storable.admitted
+admitted_at st block page has found = (stored_page st.format block st.pages page has.stored found).storable.admitted
 
 block_at : (st : State) (block : ℕ) (page : Page) → HasTree st → slice_get st.pages block ≡ Some page → page.block ≡ block
-block_at st block page has found = (stored_page st.limits block st.pages page has.stored found).block_is
+block_at st block page has found = (stored_page st.format block st.pages page has.stored found).block_is
 
 -- a page of level 0 that isn't the metapage is a leaf
 leaf_items : (page : Page) → IsPage page → 0 < page.block → page.level ≡ 0 → HasEntries page.items

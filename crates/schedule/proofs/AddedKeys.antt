@@ -15,7 +15,7 @@ or_true true = refl
 or_true false = refl
 
 module _ {S : Type 0} (g : Ghosts S) (start : Entry → Bool) (now : Moment S) (number before : ℕ) (call : Call) (e x : Entry) (fits : Fits g start now)
-    (asked : (g.state now.store).limits.unique ≡ true) (found : slice_get now.calls number ≡ Some call) (ask : call.ask ≡ AskInsert e)
+    (asked : (g.state now.store).format.unique ≡ true) (found : slice_get now.calls number ≡ Some call) (ask : call.ask ≡ AskInsert e)
     (added : call.added ≡ Some (suc before)) (same : x.key ≡ e.key) where
   answer : IsInsertAnswer start now.history number call.began (end_of now.history call.ending call.until) e call.added call.ending
   answer = subst (λ (a : Ask). AnswersRight start now.history number call.began (end_of now.history call.ending call.until) a call.given call.added call.ending) ask

@@ -20,7 +20,7 @@ true_false h = cc
 -- a leaf isn't the metapage
 leaf_above : (st : State) (block : ℕ) (page : Page) → IsInOrder st → IsLeafAt st.pages block page → 1 ≤ block
 leaf_above st block page order at =
-    let s = stored_page st.limits block st.pages page order.tree.stored at.found in
+    let s = stored_page st.format block st.pages page order.tree.stored at.found in
     let above = (leaf_is page s.storable.admitted at.leaf).0 in
     subst (λ (b : ℕ). 1 ≤ b) s.block_is (omega (arith, above))
 

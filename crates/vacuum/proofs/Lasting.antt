@@ -95,7 +95,7 @@ pub all_to_come : AllIsToCome
 all_to_come due st session order = record {
   from = tt;
   to_come = λ block page e at on is_due.
-      let s = stored_page st.limits block st.pages page order.tree.stored at.found in
+      let s = stored_page st.format block st.pages page order.tree.stored at.found in
       let above = (leaf_is page s.storable.admitted at.leaf).0 in
       ahead (subst (λ (b : ℕ). 1 ≤ b) s.block_is (omega (arith, above)));
 }

@@ -359,12 +359,12 @@ module _ {S : Type 0} (g : Ghosts S) (session least_room : ℕ) (entry : Entry) 
       → IsCaused (causes_of_asked g session least_room (Some (g.state old.store).begun) false (AskInsert entry) old new) answer
       → InsertCallIsCaused g session least_room entry old new (outcome_of answer added)
   caused old new (Added action None) added may apart c = tt
-  caused old new (Added action (Some fault)) added may apart c = added_cause g session least_room old new (λ r. (g.state new).limits.unique) (no_block old new) (is_tall (g.state new)) fault c
+  caused old new (Added action (Some fault)) added may apart c = added_cause g session least_room old new (λ r. (g.state new).format.unique) (no_block old new) (is_tall (g.state new)) fault c
   caused old new (Refused fault) None may apart c =
       called_wider g session (ToInsert entry) old
-      (causes_of_inserted g session least_room true (λ r. (g.state new).limits.unique) (no_block old new) (is_tall (g.state new)) old new) refl refl refl fault c
+      (causes_of_inserted g session least_room true (λ r. (g.state new).format.unique) (no_block old new) (is_tall (g.state new)) old new) refl refl refl fault c
   caused old new (Refused fault) (Some action) may apart c =
-      left_cause g session least_room old new (λ r. (g.state new).limits.unique) (no_block old new) (is_tall (g.state new)) fault (λ of. apart action refl fault of refl) c
+      left_cause g session least_room old new (λ r. (g.state new).format.unique) (no_block old new) (is_tall (g.state new)) fault (λ of. apart action refl fault of refl) c
   caused old new answer added may apart c = absurd may
 
   may_run : (start : Entry → Bool) (x z : Moment S) (answer : Answer) (added : Option ℕ) → answer ≢ Going
@@ -379,7 +379,7 @@ module _ {S : Type 0} (g : Ghosts S) (session least_room : ℕ) (entry : Entry) 
   insert_caused {x = x} {z} answer added over (inl n) =
       rw (n.refused, n.none)
       (begun_called g session (ToInsert entry) (here_at x)
-      (causes_of_inserted g session least_room true (λ r. (g.state z.store).limits.unique) (no_block (here_at x) z.store)
+      (causes_of_inserted g session least_room true (λ r. (g.state z.store).format.unique) (no_block (here_at x) z.store)
       (is_tall (g.state z.store)) (here_at x) z.store) (λ h. stopped_before g session least_room false (here_at x) z.store h) n.fault n.cause)
   insert_caused {start} {x} {z} answer added over (inr r) =
       caused (here_at x) z.store answer added (may_run start x z answer added over (inr r))

@@ -31,7 +31,7 @@ acts_low st (Some (Bulk set op)) = omega arith
 acts_low st (Some (Cleanup op)) = omega arith
 
 -- there are fewer steps than are counted
-pub steps_few : {S : Type 0} (g : Ghosts S) (laws : Laws g) (start : Entry → Bool) (now : Moment S) (session : ℕ) → Fits g start now → (g.state now.store).limits.pages ≤ 65536
+pub steps_few : {S : Type 0} (g : Ghosts S) (laws : Laws g) (start : Entry → Bool) (now : Moment S) (session : ℕ) → Fits g start now → (g.state now.store).format.pages ≤ 65536
     → steps_left (g.state now.store) (slot_of now.slots session) < 18446744073709551615
 steps_few g laws start now session fits low =
     let work = work_bounded g start now fits low session in
@@ -88,7 +88,7 @@ same_left old new ask added same = refl
 -- a step that goes on leaves fewer
 module _ {S : Type 0} (g : Ghosts S) (start : Entry → Bool) (session : ℕ) (x y : Moment S) (honest : (g.backing y.store).honest ≡ true)
     (fits : Fits g start x) (does : EventDoes g start (MovesCall session Steps) Going x y)
-    (low : (g.state x.store).limits.pages ≤ 65536) where
+    (low : (g.state x.store).format.pages ≤ 65536) where
   abbrev old : State
   old = g.state x.store
 
@@ -98,8 +98,8 @@ module _ {S : Type 0} (g : Ghosts S) (start : Entry → Bool) (session : ℕ) (x
   abbrev fewer_left : Type 0
   fewer_left = steps_left now (slot_of y.slots session) < steps_left old (slot_of x.slots session)
 
-  low_now : now.limits.pages ≤ 65536
-  low_now = subst (λ (l : Format). l.pages ≤ 65536) (sym does.also.quiet.limits) low
+  low_now : now.format.pages ≤ 65536
+  low_now = subst (λ (l : Format). l.pages ≤ 65536) (sym does.also.quiet.format) low
 
   -- the step leaves less
   less_by : OwesLess (slot_of x.slots session) old now → work_in now (slot_of y.slots session) < work_in old (slot_of x.slots session)

@@ -47,7 +47,7 @@ module _ {S : Type 0} {g : Ghosts S} (laws : Laws g) {start : Entry → Bool} {s
   counted what follows = finish.gone.counted what (begun.counts what follows)
 
   -- it had room to count more
-  has_room : AreLimits (g.state y.store).limits → AsksToCount (asked_by x.sets request) → is_full_vacuum (slot_of last.slots session) ≡ true → false ≡ true
+  has_room : AreLimits (g.state y.store).format → AsksToCount (asked_by x.sets request) → is_full_vacuum (slot_of last.slots session) ≡ true → false ≡ true
   has_room are counts full = of request runs begun.told.history_is counts counted
     where
       of : (req : Request) → IsRunningCall y.calls session number (first_call session req x) → y.history ≡ x.history → AsksToCount (asked_by x.sets req)
@@ -60,7 +60,7 @@ module _ {S : Type 0} {g : Ghosts S} (laws : Laws g) {start : Entry → Bool} {s
       of ToCleanup is history asks so = cleanup_fills g laws start session y fits_y are last finish.gone (so of_cleanup tt) full
 
   -- why it is refused, told from the moment before it
-  caused : AreLimits (g.state y.store).limits → IsCaused (causes_of_asked g session least_room (Some (g.state x.store).begun) false (asked_by x.sets request) (here_at x) z.store) answer
+  caused : AreLimits (g.state y.store).format → IsCaused (causes_of_asked g session least_room (Some (g.state x.store).begun) false (asked_by x.sets request) (here_at x) z.store) answer
   caused are =
       let far = finish.gone.far number call runs in
       let then_call = noted_after call (length y.history) far.0 in
@@ -88,7 +88,7 @@ module _ {S : Type 0} {g : Ghosts S} (laws : Laws g) {start : Entry → Bool} {s
       subst (λ (st : State). StatsCountFor (asked_by x.sets request) st stats) (sym same)
       (subst (λ (a : Ask). StatsCountFor a (g.state z.store) stats) asked (finish.step.stats number then_call then_runs stats finished))
 
-  pub has_run : AreLimits (g.state y.store).limits → HasCompleted g session least_room request answer added start x w
+  pub has_run : AreLimits (g.state y.store).format → HasCompleted g session least_room request answer added start x w
   has_run are = record {
     here = z;
     fits = out.fits;

@@ -210,4 +210,4 @@ room_outcome (Err fault) = Some (Refused fault)
 
 -- there is room for `least` images, or the log is empty
 abbrev pub RoomIsMade : ℕ → Format → Backing → Type 0
-RoomIsMade least limits backing = (least ≤ backing.room) ⊎ LogIsClosed limits backing
+RoomIsMade least format backing = (least ≤ backing.room) ⊎ LogIsClosed format backing

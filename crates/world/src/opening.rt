@@ -50,16 +50,16 @@ impl<D: Device, T: DeadRows + Drop> World<Store<D>, T> {
         // want of memory or of the device.
         ensures begins { IsTrue (D.is_honest (world_device D.Device result))
             → AreFrames frames → 1 ≤ sessions → sessions ≤ 64
-            → (limits : Format) (pages : List Page)
-            → HasIndex limits pages (D.trace device).now.seen → IsTreeFor limits pages
+            → (format : Format) (pages : List Page)
+            → HasIndex format pages (D.trace device).now.seen → IsTreeFor format pages
             → MatchResult result
-            (BeginsWith D.Device ⟦<Store<D> as PageStore>⟧ T.DeadRows limits pages)
+            (BeginsWith D.Device ⟦<Store<D> as PageStore>⟧ T.DeadRows format pages)
             (λ not_opened. IsNoMemoryOrIo not_opened.fault) }
         // A crash at each moment since leaves the same index, whatever was answered.
         ensures moments { IsTrue (D.is_honest (world_device D.Device result))
-            → (limits : Format) (pages : List Page)
-            → HasIndex limits pages (D.trace device).now.seen
-            → AtEachMoment (CrashesToPages limits pages) (D.trace device)
+            → (format : Format) (pages : List Page)
+            → HasIndex format pages (D.trace device).now.seen
+            → AtEachMoment (CrashesToPages format pages) (D.trace device)
             (D.trace (world_device D.Device result)) }
         ensures len { length (D.trace (world_device D.Device result)).now.seen
             ≡ length (D.trace device).now.seen }
