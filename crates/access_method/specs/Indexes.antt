@@ -42,7 +42,7 @@ use Rattle.access_method.specs.declared.index.Index.{Index}
 use Rattle.access_method.specs.declared.index.NamedRows.{NamedRows}
 use Rattle.access_method.specs.declared.index.NamedRows.TheVariants.{Own, Lent}
 use Rattle.access_method.specs.declared.token.ScanToken.{ScanToken}
-use Rattle.access_method.specs.declared.token.Seat.{Seat}
+use Rattle.access_method.specs.declared.token.OpenScan.{OpenScan}
 use Rattle.access_method.specs.declared.token.Sitter.TheVariants.{Scan as SitsToScan, Vacuum as SitsToVacuum}
 
 -- the rows of the index itself, or of a bulk delete that is run to its end by one call
@@ -134,12 +134,12 @@ pub record IsNewToken {S : Type 0} (old new : Index S) (token : ScanToken) : Typ
   pub seats_is : new.seats ≡ slice_set old.seats token.session (Some (SitsToScan (record { number = token.number; is_refused = false })))
 
 -- the seat of an open token is this now; no other token is changed
-pub record SeatBecomes {S : Type 0} (token : ScanToken) (seat : Option Seat) (old new : Index S) : Type 0 where
+pub record SeatBecomes {S : Type 0} (token : ScanToken) (seat : Option OpenScan) (old new : Index S) : Type 0 where
   pub given_is : new.given ≡ old.given
   pub seats_is : new.seats ≡ slice_set old.seats token.session (sitter_of seat)
 
 -- its seat, answering, or refused
-abbrev pub seat_with : ScanToken → Bool → Option Seat
+abbrev pub seat_with : ScanToken → Bool → Option OpenScan
 seat_with token is_refused = Some (record { number = token.number; is_refused = is_refused })
 
 -- no scan can begin: the log has failed, or a counter is at its end

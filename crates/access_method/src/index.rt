@@ -8,7 +8,7 @@ ghost use Rattle.vacuum.specs.Counts.{deleted_count, free_count};
 
 use crate::info::IndexInfo;
 use crate::rows::RowSet;
-use crate::token::{ScanToken, Seat, Sitter};
+use crate::token::{OpenScan, ScanToken, Sitter};
 use device::Device;
 use index_model::{DeadRows, Entry, Fault, Range, RowAddr, Session, VacuumStats};
 use page_action::PageStore;
@@ -43,7 +43,7 @@ pub struct Index<S> {
 
 /// Why an index was not made, with the store as it was.
 #[derive(Drop)]
-pub struct NotMade<S> {
+pub struct IndexNotMade<S> {
     pub fault: Fault,
     pub store: S,
 }
@@ -163,7 +163,7 @@ impl<S: PageStore> Index<S> {
     /// An index over the store, with no call and no open scan. Where the store's pages are in order and it
     /// has made no act, the index is fitted by the contents of its pages, no actions and no calls; over an
     /// own device it keeps them over crashes. Refused with `NoMemory` (1), with the store given back.
-    pub fn new(alloc: Global, store: S) -> Result<Index<S>, NotMade<S>>
+    pub fn new(alloc: Global, store: S) -> Result<Index<S>, IndexNotMade<S>>
         ensures store { IfOk result (λ index. index.store ≡ store) }
         ensures fits { IsUnused (S.state store) → IfOk result (λ index.
             IndexFits S.PageStore index (entry_on_live_leaf (S.state store).pages) [] []) }
@@ -182,7 +182,7 @@ impl<S: PageStore> Index<S> {
                 rows: RowSet::new(),
                 given: 0,
             }),
-            Err(fault) => Err(NotMade { fault, store }),
+            Err(fault) => Err(IndexNotMade { fault, store }),
         }
     }
 
@@ -365,7 +365,7 @@ impl<S: PageStore> Index<S> {
     }
 
     // The seat of an open token.
-    fn find(&self, token: ScanToken) -> Option<Seat>
+    fn find(&self, token: ScanToken) -> Option<OpenScan>
         ensures value { result ≡ seat_of self.now.seats token }
         ensures low { OnSome result (token.session < 63) }
     {
@@ -437,7 +437,7 @@ impl<S: PageStore> Index<S> {
         ) {
             Ok(given) => Ok(given),
             Err(fault) => {
-                self.seats[token.session as usize] = Some(Sitter::Scan(Seat {
+                self.seats[token.session as usize] = Some(Sitter::Scan(OpenScan {
                     number: token.number,
                     is_refused: true,
                 }));
@@ -524,7 +524,7 @@ impl<S: PageStore> Index<S> {
             range,
         )?;
         let number = self.given;
-        self.seats[at] = Some(Sitter::Scan(Seat {
+        self.seats[at] = Some(Sitter::Scan(OpenScan {
             number,
             is_refused: false,
         }));
@@ -577,7 +577,7 @@ impl<S: PageStore> Index<S> {
             token.session,
             range,
         )?;
-        self.seats[token.session as usize] = Some(Sitter::Scan(Seat {
+        self.seats[token.session as usize] = Some(Sitter::Scan(OpenScan {
             number: token.number,
             is_refused: false,
         }));
@@ -667,7 +667,7 @@ impl<D: Device> Index<Store<D>> {
         match recovery::open(alloc, device, frames) {
             Ok(store) => match Index::new(alloc, store) {
                 Ok(index) => Ok(index),
-                Err(NotMade { fault, store }) => Err(Refused {
+                Err(IndexNotMade { fault, store }) => Err(Refused {
                     fault,
                     device: store.into_device(),
                 }),

@@ -9,7 +9,7 @@ ghost use Rattle.amcheck.specs.Sound.{HasLevelsFor};
 use crate::judging::{judge, judge_chains};
 use crate::page_room::PageRoom;
 use crate::pages::Pages;
-use crate::reading::{Room, read_pages};
+use crate::reading::{CheckRoom, read_pages};
 use crate::report::{CheckFault, Damage, Report};
 use crate::stops::Stop;
 use index_model::Progress;
@@ -45,7 +45,7 @@ pub(crate) fn check_by<
 {
     let used = store.used();
     let keys = store.format().unique;
-    let mut room = match Room::new(alloc, used) {
+    let mut room = match CheckRoom::new(alloc, used) {
         Ok(room) => room,
         Err(fault) => return Err(CheckFault::Refused(fault)),
     };
@@ -75,7 +75,7 @@ pub(crate) fn check_parents_by<
 {
     let used = store.used();
     let keys = store.format().unique;
-    let mut room = match Room::new(alloc, used) {
+    let mut room = match CheckRoom::new(alloc, used) {
         Ok(room) => room,
         Err(fault) => return Err(CheckFault::Refused(fault)),
     };

@@ -13,7 +13,7 @@ use Rattle.page_store.specs.declared.store.Store.{Store}
 use Rattle.recovery.specs.Index.{HasIndex}
 use Rattle.schedule.specs.TheoremCrashes.{ArePagesAfter}
 use Rattle.world.specs.Worlds.{WorldFits, WorldKeeps}
-use Rattle.world.specs.declared.opening.NotOpened.{NotOpened}
+use Rattle.world.specs.declared.opening.WorldNotOpened.{WorldNotOpened}
 use Rattle.world.specs.declared.world.World.{World}
 
 -- these bytes are an index whose pages are a B-link tree, with the contents after a prefix of the history of
@@ -34,7 +34,7 @@ pub record BeginsWith {D T : Type 0} (d : DeviceGhosts D) (g : Ghosts (Store D d
   pub keeps : WorldKeeps g rows world (entry_on_live_leaf pages) [] []
 
 -- the device as an open left it, in the world or given back
-abbrev pub world_device : {D T : Type 0} (d : DeviceGhosts D) → Result (World (Store D d) T) (NotOpened D T) → D
+abbrev pub world_device : {D T : Type 0} (d : DeviceGhosts D) → Result (World (Store D d) T) (WorldNotOpened D T) → D
 world_device d (Ok world) = device_of d world.store
 world_device d (Err not_opened) = not_opened.device
 
