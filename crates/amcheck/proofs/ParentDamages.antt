@@ -6,6 +6,7 @@ use Rattle.amcheck.proofs.Imports.{IsOnLevel, IsOnChain, IsUnlinked, IsSecond, I
 use Rattle.amcheck.proofs.Imports.{no_link, bool_so, on_level_so, AreAllStops, IsAt, HaveBlocksOnce, IsStopOf, HasNoStop, IsOff, AreBelow, HasWrongBound, IsSkipped, LacksLink, false≢true, same_Some}
 use Rattle.amcheck.proofs.Imports.{IsSkippedStop, LeadsBefore, IsExtra, HasExtra, DownlinksAreNoted, IsWrongAmong, IsNotMet, AreChildrenBelow, IsClearAt, IsFirstChild, IsFirstOfPage, IsFirstAt}
 use Rattle.amcheck.proofs.Imports.{AreMarked, high_at, context_at, stop_blocks, IsStop, IsLeastNumber, StopsAreInUse, Stop}
+use Rattle.amcheck.proofs.Imports.{met_before, off_level}
 use Rattle.amcheck.proofs.AllStops.{HasItsStop, Indexed, indexed, stop_moved}
 use Rattle.amcheck.proofs.ItemsNoted.{item_inside}
 use Rattle.amcheck.proofs.Walked.{stop_inside, stop_of}
@@ -80,7 +81,7 @@ module _ (pages : List Page) (stops : List Stop) (all : AreAllStops (index_of pa
   at_here k s there = record { stop = s; there = there; is = idx.is k s there }
 
   on_level : (h : Here ix) → IsOnLevel ix h.depth h.block
-  on_level h = on_level_so ix h.depth h.block (λ fails. sound (on_chain h) 1 (inl (refl, fails)))
+  on_level h = on_level_so ix h.depth h.block (λ fails. sound (on_chain h) 1 (off_level refl fails))
 
   -- a page is at one place
   same_depth : (h g : Here ix) → h.block ≡ g.block → h.depth ≡ g.depth
@@ -91,14 +92,11 @@ module _ (pages : List Page) (stops : List Stop) (all : AreAllStops (index_of pa
       omega (arith, l, m, one)
 
   never_twice : (h g : Here ix) → h.block ≡ g.block → h.place < g.place → ⊥
-  never_twice h g same lt = sound (on_chain g) 3 (inr (inr (inl (
-    refl,
-    record {
-      earlier = h.place;
-      before = lt;
-      same = subst (λ (d : ℕ). (place_at ix d h.place).block ≡ Some g.block) (same_depth h g same) (h.is ∙ ap Some same);
-    },
-  ))))
+  never_twice h g same lt = sound (on_chain g) 3 (met_before refl (record {
+    earlier = h.place;
+    before = lt;
+    same = subst (λ (d : ℕ). (place_at ix d h.place).block ≡ Some g.block) (same_depth h g same) (h.is ∙ ap Some same);
+  }))
 
   same_place : (h g : Here ix) → h.block ≡ g.block → h.place ≡ g.place
   same_place h g same = elim (cases_lt h.place g.place) [

@@ -7,6 +7,7 @@ use Rattle.damages.proofs.Imports.{Contains, cases_lt, bound_of, Bound, Entry, D
 use Rattle.damages.proofs.Imports.{context_after, first_context, IsBeyond, Rises, AscendWithin, LinksWithin, FitsState, IsRootLevel, IsTreeOf, from_low, downlinks, Index, index_of, or_block}
 use Rattle.damages.proofs.Imports.{ComesBefore, Place, Here, Item, Site, node, context, IsOnLevel, IsOnChain, IsMetBefore, HasNotBeyond, IsAfterRoot, IsUnlinked, IsOfPath, IsOfChain, IsOfParents}
 use Rattle.damages.proofs.Imports.{IsDamage, IsSound, on_way, on_chain, at_child, at_page, nowhere, StandAtTheirBlocks, IsTree, IsBoundBeyond, same_Some}
+use Rattle.damages.proofs.Imports.{beside_root, dead_after_split, deleted, met_before, not_beyond, not_rising, off_level, shared_key, wrong_left}
 use Rattle.damages.proofs.Items.{leaf_links, upper_entries}
 use Rattle.damages.proofs.KeysJudged.{unique_at}
 use Rattle.damages.proofs.Linking.{among_at, had, has, IsHad, due, HasDueDownlink, is_due, ascend_items, ascend_places}
@@ -143,15 +144,15 @@ module _ (pages : List Page) (stand : StandAtTheirBlocks pages) (chain : ℕ →
         root_level = subst (λ (l : ℕ). IsRootLevel at ix.root (chain l)) (let k : ix.top ≡ ix.top - h.depth = omega arith in k) t.root_level
 
     chain_sound : (keys : Bool) → (keys ≡ true → AreUnique pages) → (number : ℕ) → IsOfChain keys h number → ⊥
-    chain_sound keys unique number (inl a) = a.1 (on_level pages chain t h)
-    chain_sound keys unique number (inr (inl a)) = a.1 (placed pages chain t h).left_is
-    chain_sound keys unique number (inr (inr (inl a))) = not_met a.1
-    chain_sound keys unique number (inr (inr (inr (inl a)))) = not_deleted (node h).state (ix.top - h.depth) (context h) (node h) place_fits a.1
-    chain_sound keys unique number (inr (inr (inr (inr (inl a))))) = a.2 (live_rises (node h).state (ix.top - h.depth) (context h) (node h) place_fits a.1)
-    chain_sound keys unique number (inr (inr (inr (inr (inr (inl a)))))) = within a.1
-    chain_sound keys unique number (inr (inr (inr (inr (inr (inr (inl a))))))) = not_more a.1 a.2 a.3
-    chain_sound keys unique number (inr (inr (inr (inr (inr (inr (inr (inl a)))))))) = true≢false (sym a.2 ∙ dead_clear (node h).state (ix.top - h.depth) (context h) (node h) place_fits a.1)
-    chain_sound keys unique number (inr (inr (inr (inr (inr (inr (inr (inr a)))))))) = a.2 (unique_at pages h.block (unique a.1))
+    chain_sound keys unique number (off_level k off) = off (on_level pages chain t h)
+    chain_sound keys unique number (wrong_left k differs) = differs (placed pages chain t h).left_is
+    chain_sound keys unique number (met_before k met) = not_met met
+    chain_sound keys unique number (deleted k gone) = not_deleted (node h).state (ix.top - h.depth) (context h) (node h) place_fits gone
+    chain_sound keys unique number (not_rising k live low) = low (live_rises (node h).state (ix.top - h.depth) (context h) (node h) place_fits live)
+    chain_sound keys unique number (not_beyond k has) = within has
+    chain_sound keys unique number (beside_root k top not_root not_after) = not_more top not_root not_after
+    chain_sound keys unique number (dead_after_split k dead after) = true≢false (sym after ∙ dead_clear (node h).state (ix.top - h.depth) (context h) (node h) place_fits dead)
+    chain_sound keys unique number (shared_key k seen shared) = shared (unique_at pages h.block (unique seen))
 
     -- items stand above the leaves, and each is due on the level below
     below : Item h → h.depth < ix.top
