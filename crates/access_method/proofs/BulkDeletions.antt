@@ -73,14 +73,14 @@ module _ {S : Type 0} (g : Ghosts S) (index_own dead : Row → Bool) (old new : 
     abbrev said : Entry → Option Bool
     said e = last_said (acts_by (length calls) effects) e
 
-    behind : (e : Entry) → contents_after start then_history e ≡ unwrap_or (said e) (contents_after start history e)
-    behind e = ap (λ (l : List Action). contents_after start l e) is ∙ contents_after-append start history (acts_by (length calls) effects) e
+    then_said : (e : Entry) → contents_after start then_history e ≡ unwrap_or (said e) (contents_after start history e)
+    then_said e = ap (λ (l : List Action). contents_after start l e) is ∙ contents_after-append start history (acts_by (length calls) effects) e
 
     alive_stays : (e : Entry) → dead e.row ≡ false → contents_after start then_history e ≡ contents_after start history e
-    alive_stays e alive = behind e ∙ ap (λ (o : Option Bool). unwrap_or o (contents_after start history e)) (says_nothing dead (length calls) bulk_delete_call (length history) effects e asks own alive)
+    alive_stays e alive = then_said e ∙ ap (λ (o : Option Bool). unwrap_or o (contents_after start history e)) (says_nothing dead (length calls) bulk_delete_call (length history) effects e asks own alive)
 
     was_there : (e : Entry) → contents_after start then_history e ≡ true → contents_after start history e ≡ true
-    was_there e there = of (said e) refl (sym (behind e) ∙ there)
+    was_there e there = of (said e) refl (sym (then_said e) ∙ there)
       where
         of : (o : Option Bool) → said e ≡ o → unwrap_or o (contents_after start history e) ≡ true → contents_after start history e ≡ true
         of None at h = h

@@ -25,9 +25,9 @@ pub open_fault : (honest : Bool) (frames : ℕ) (old new : Trace) (failed fails 
     → IsIoOr (IsRefusal honest frames old new) failed fails fault → IsOpenFault fault
 open_fault honest frames old new failed fails fault (inl io) = subst IsOpenFault (sym io.0) tt
 open_fault honest frames old new failed fails fault (inr (inl first, same)) = front_refusal honest frames old.now.seen fault first.0
-open_fault honest frames old new failed fails fault (inr (inr (limits, allowed, front, inl memory), same)) = subst IsOpenFault (sym memory) tt
-open_fault honest frames old new failed fails fault (inr (inr (limits, allowed, front, inr (inl log)), same)) = subst IsOpenFault (sym log.0) tt
-open_fault honest frames old new failed fails fault (inr (inr (limits, allowed, front, inr (inr (block, is, damaged))), same)) = subst IsOpenFault (sym is) tt
+open_fault honest frames old new failed fails fault (inr (inr (format, allowed, front, inl memory), same)) = subst IsOpenFault (sym memory) tt
+open_fault honest frames old new failed fails fault (inr (inr (format, allowed, front, inr (inl log)), same)) = subst IsOpenFault (sym log.0) tt
+open_fault honest frames old new failed fails fault (inr (inr (format, allowed, front, inr (inr (block, is, damaged))), same)) = subst IsOpenFault (sym is) tt
 
 -- the device was made over a file that held these bytes, and is as long as it was: so what it was refused for
 -- is of that file
@@ -35,8 +35,8 @@ pub not_opened_is : {D : Type 0} (d : DeviceGhosts D) (Sound : Format → List P
     (frames n : ℕ) (before after : D) (fault : Fault)
     → d.trace before ≡ first (bytes n) → d.failures before ≡ 0 → length (d.trace after).now.seen ≡ length (d.trace before).now.seen
     → IsIoOr (IsRefusal (d.is_honest after) frames (d.trace before) (d.trace after)) (d.failures before) (d.failures after) fault
-    → (IsTrue (d.is_honest after) → AreFrames frames → (limits : Format) (pages : List Page)
-    → HasIndex limits pages (d.trace before).now.seen → Sound limits pages → IsNoMemoryOrIo fault)
+    → (IsTrue (d.is_honest after) → AreFrames frames → (format : Format) (pages : List Page)
+    → HasIndex format pages (d.trace before).now.seen → Sound format pages → IsNoMemoryOrIo fault)
     → IsNotOpened d Sound bytes frames fault after
 not_opened_is d Sound bytes sized frames n before after fault held none len cause sound =
     let seen = ap (λ (t : Trace). t.now.seen) held in
@@ -45,8 +45,8 @@ not_opened_is d Sound bytes sized frames n before after fault held none len caus
     record {
       cause = subst (λ (failed : ℕ). IsIoOr (IsRefusal (d.is_honest after) frames (first (bytes_before bytes (d.trace after))) (d.trace after)) failed (d.failures after) fault) none
           (subst (λ (t : Trace). IsIoOr (IsRefusal (d.is_honest after) frames t (d.trace after)) (d.failures before) (d.failures after) fault) is cause);
-      sound = λ honest allowed limits pages index tree.
-          sound honest allowed limits pages (subst (HasIndex limits pages) (sym (ap (λ (t : Trace). t.now.seen) is)) index) tree;
+      sound = λ honest allowed format pages index tree.
+          sound honest allowed format pages (subst (HasIndex format pages) (sym (ap (λ (t : Trace). t.now.seen) is)) index) tree;
     }
 
 -- ... and so it is told

@@ -130,16 +130,16 @@ module _ {S : Type 0} (g : Ghosts S) (start : Entry → Bool) (x y : Moment S) (
   abbrev said : Entry → Option Bool
   said e = last_said (acts_by number part.effects) e
 
-  behind : (e : Entry) → contents_after start y.history e ≡ unwrap_or (said e) (contents_after start x.history e)
-  behind e = ap (λ (l : List Action). contents_after start l e) part.history_is ∙ contents_after-append start x.history (acts_by number part.effects) e
+  then_said : (e : Entry) → contents_after start y.history e ≡ unwrap_or (said e) (contents_after start x.history e)
+  then_said e = ap (λ (l : List Action). contents_after start l e) part.history_is ∙ contents_after-append start x.history (acts_by number part.effects) e
 
   same_where : (e : Entry) → said e ≡ None → has_entry g y.store e ≡ has_entry g x.store e
-  same_where e none = then_fits.explains.contents e ∙ behind e ∙ ap (λ (o : Option Bool). unwrap_or o (contents_after start x.history e)) none ∙ sym (fits.explains.contents e)
+  same_where e none = then_fits.explains.contents e ∙ then_said e ∙ ap (λ (o : Option Bool). unwrap_or o (contents_after start x.history e)) none ∙ sym (fits.explains.contents e)
 
   pub part_loses : (dead : Row → Bool) → call.ask ≡ AskBulkDelete dead → LosesDeadRows g dead x.store y.store
   part_loses dead ask = record {
     others = λ e alive. same_where e (says_nothing dead number call (length x.history) part.effects e ask part.own alive);
-    came = λ e there. fits.explains.contents e ∙ was e (said e) refl (sym (behind e) ∙ sym (then_fits.explains.contents e) ∙ there);
+    came = λ e there. fits.explains.contents e ∙ was e (said e) refl (sym (then_said e) ∙ sym (then_fits.explains.contents e) ∙ there);
   }
     where
       was : (e : Entry) (o : Option Bool) → said e ≡ o → unwrap_or o (contents_after start x.history e) ≡ true → contents_after start x.history e ≡ true

@@ -54,8 +54,8 @@ module _ {S : Type 0} (g : Ghosts S) (old : Index S) (new : S) where
     there = there_at old slots
 
     refused_cause : (was_there : Bool) (key_was : Row → Bool) (used_up tall : Bool) (fault : Fault) → (fault ≡ Exists → was_there ≡ true)
-        → ((row : Row) → fault ≡ KeyExists row → (g.state new).limits.unique ≡ true → key_was row ≡ true)
-        → HasCause (causes_of_called g 63 (ToInsert entry) (slots_within old) (causes_of_inserted g 63 5 true (λ r. (g.state new).limits.unique) used_up tall (slots_within old) new)) fault
+        → ((row : Row) → fault ≡ KeyExists row → (g.state new).format.unique ≡ true → key_was row ≡ true)
+        → HasCause (causes_of_called g 63 (ToInsert entry) (slots_within old) (causes_of_inserted g 63 5 true (λ r. (g.state new).format.unique) used_up tall (slots_within old) new)) fault
         → HasCause (causes_of_aminsert g was_there key_was used_up tall old new) fault
     refused_cause was_there key_was used_up tall Stopped was key h = stopped_called h
     refused_cause was_there key_was used_up tall Exists was key h = was refl
@@ -70,12 +70,12 @@ module _ {S : Type 0} (g : Ghosts S) (old : Index S) (new : S) where
     left_cause used_up tall (Some Stopped) h = stopped_run h
     left_cause used_up tall (Some fault) h = h
 
-    pub insert_cause : (g.state new).limits ≡ (g.state old.store).limits → (result : Result Inserted Fault) → InsertsOrKeeps g entry result old.store new
+    pub insert_cause : (g.state new).format ≡ (g.state old.store).format → (result : Result Inserted Fault) → InsertsOrKeeps g entry result old.store new
         → InsertCallIsCaused g 63 5 entry (slots_within old) new result → InsertHasCause g entry result old new
-    insert_cause limits (Ok inserted) told h = left_cause (none_is_left (g.state old.store).begun (g.state new)) (is_tall (g.state new)) inserted.unfinished h
-    insert_cause limits (Err fault) told h =
+    insert_cause format (Ok inserted) told h = left_cause (none_is_left (g.state old.store).begun (g.state new)) (is_tall (g.state new)) inserted.unfinished h
+    insert_cause format (Err fault) told h =
         refused_cause (has_entry g old.store entry) (other_row_is_there (g.state old.store) entry) (none_is_left (g.state old.store).begun (g.state new)) (is_tall (g.state new)) fault told.was_there
-        (λ row is unique. (let key = told.key_was_there row is in other_row_so (g.state old.store) entry row (ap (λ (f : Format). f.unique) (sym limits) ∙ unique) key.0 key.1)) h
+        (λ row is unique. (let key = told.key_was_there row is in other_row_so (g.state old.store) entry row (ap (λ (f : Format). f.unique) (sym format) ∙ unique) key.0 key.1)) h
 
 -- a run leaves the number of frames as it was
 run_frames : {S : Type 0} (g : Ghosts S) (start : Entry → Bool) (told : List Answer) (events : List Event) (answers : List Answer)
@@ -87,24 +87,24 @@ run_frames g start told (event ∷ events) [] first last is = absurd is
 run_frames g start told (event ∷ events) (answer ∷ answers) first last is = run_frames g start (told ++ answer ∷ []) events answers is.1.0 last is.1.2 ∙ is.1.1.also.quiet.frames
 
 -- ... and the limits
-run_limits : {S : Type 0} (g : Ghosts S) (start : Entry → Bool) (told : List Answer) (events : List Event) (answers : List Answer)
+run_format : {S : Type 0} (g : Ghosts S) (start : Entry → Bool) (told : List Answer) (events : List Event) (answers : List Answer)
     (first last : Moment S) → IsRun g start told events answers first last
-    → (g.state last.store).limits ≡ (g.state first.store).limits
-run_limits {S} g start told [] [] first last is = ap (λ (m : Moment S). (g.state m.store).limits) (sym is)
-run_limits g start told [] (answer ∷ answers) first last is = absurd is
-run_limits g start told (event ∷ events) [] first last is = absurd is
-run_limits g start told (event ∷ events) (answer ∷ answers) first last is = run_limits g start (told ++ answer ∷ []) events answers is.1.0 last is.1.2 ∙ is.1.1.also.quiet.limits
+    → (g.state last.store).format ≡ (g.state first.store).format
+run_format {S} g start told [] [] first last is = ap (λ (m : Moment S). (g.state m.store).format) (sym is)
+run_format g start told [] (answer ∷ answers) first last is = absurd is
+run_format g start told (event ∷ events) [] first last is = absurd is
+run_format g start told (event ∷ events) (answer ∷ answers) first last is = run_format g start (told ++ answer ∷ []) events answers is.1.0 last is.1.2 ∙ is.1.1.also.quiet.format
 
-pub limits_stay : {S : Type 0} (g : Ghosts S) (session : ℕ) (Tells : Moment S → Moment S → Type 0) (came : Option Answer) (old new : StoreAndSlots S)
+pub format_stays : {S : Type 0} (g : Ghosts S) (session : ℕ) (Tells : Moment S → Moment S → Type 0) (came : Option Answer) (old new : StoreAndSlots S)
     (start : Entry → Bool) (history : List Action) (calls : List Call)
-    → CallRuns g session Tells came old new start history calls → (g.state new.store).limits ≡ (g.state old.store).limits
-limits_stay g session Tells came old new start history calls r = run_limits g start [] r.events r.answers (snapshot_of old history calls) (snapshot_of new r.then_history r.then_calls) r.ran.run
+    → CallRuns g session Tells came old new start history calls → (g.state new.store).format ≡ (g.state old.store).format
+format_stays g session Tells came old new start history calls r = run_format g start [] r.events r.answers (snapshot_of old history calls) (snapshot_of new r.then_history r.then_calls) r.ran.run
 
-pub insert_limits : {S : Type 0} (g : Ghosts S) (entry : Entry) (result : Result Inserted Fault) (old new : StoreAndSlots S)
-    → InsertIsRun g 63 entry result old new → ForEachHistory g old new (λ start history calls. (g.state new.store).limits ≡ (g.state old.store).limits)
-insert_limits g entry (Ok inserted) old new (inl goes) honest start history calls fits = limits_stay g 63 _ _ old new start history calls (goes honest start history calls fits)
-insert_limits g entry (Ok inserted) old new (inr cut) honest start history calls fits = limits_stay g 63 _ _ old new start history calls (cut.goes honest start history calls fits)
-insert_limits g entry (Err fault) old new goes honest start history calls fits = limits_stay g 63 _ _ old new start history calls (goes honest start history calls fits)
+pub insert_format : {S : Type 0} (g : Ghosts S) (entry : Entry) (result : Result Inserted Fault) (old new : StoreAndSlots S)
+    → InsertIsRun g 63 entry result old new → ForEachHistory g old new (λ start history calls. (g.state new.store).format ≡ (g.state old.store).format)
+insert_format g entry (Ok inserted) old new (inl goes) honest start history calls fits = format_stays g 63 _ _ old new start history calls (goes honest start history calls fits)
+insert_format g entry (Ok inserted) old new (inr cut) honest start history calls fits = format_stays g 63 _ _ old new start history calls (cut.goes honest start history calls fits)
+insert_format g entry (Err fault) old new goes honest start history calls fits = format_stays g 63 _ _ old new start history calls (goes honest start history calls fits)
 
 pub frames_stay : {S : Type 0} (g : Ghosts S) (session : ℕ) (Tells : Moment S → Moment S → Type 0) (came : Option Answer) (old new : StoreAndSlots S)
     (start : Entry → Bool) (history : List Action) (calls : List Call)

@@ -6,7 +6,7 @@ use Rattle.std.proofs.Common.{◌≡◌, ◌||◌, ℕ, zero, suc, ◌+◌, ◌-
 use Rattle.std.proofs.Math.Seq.{take-append-add}
 use Rattle.index_model.proofs.Ascending.{same_entry-self}
 use Rattle.whole_calls.specs.Giving.{Becomes, SessionGivenMeans, given_outcome}
-use Rattle.access_method.proofs.Refusals.{limits_stay}
+use Rattle.access_method.proofs.Refusals.{format_stays}
 use Rattle.access_method.proofs.Imports.{IfOk, IfErr, OnOk, unwrap_or, HasCause, causes_of_forced, with_row, Answer, Begun, Going, Added, Ready, Done, Finished, Gave, Ended, Forced, Flushed}
 use Rattle.access_method.proofs.Imports.{Checkpointed, Refused, Kind, MaintainsStore, Upkeep, Forces, Flushes, Checkpoints, kind_of, kept_answer, IsOfSession, AnswersUpkeep, StoreIsKept, or_left, or_right}
 use Rattle.access_method.proofs.Imports.{ForEachHistory, Runs, Fits, Event, IsSameHistory, CallIsRun, goes_by, keeps_silent, take_at, length-replicate, Add, ThereAtSomeMoment, Action, KeysDiffer}
@@ -54,7 +54,7 @@ told_or_kept g entry (Ok inserted) came old new start history calls fits r =
     let meets : Meets start r.then_history (length calls) call = r.ran.fits.explains.meets (length calls) call found in
     let added = meets.right.add in
     let front : List Action = history ++ shapes (length calls) t.before in
-    let behind : List Action = shapes (length calls) t.behind in
+    let later_acts : List Action = shapes (length calls) t.shapes_after in
     let act : Action = record { by = length calls; effect = Add entry } in
     let many : length front ≡ t.before + length history = (
     let a = length-append history (shapes (length calls) t.before) in
@@ -62,26 +62,26 @@ told_or_kept g entry (Ok inserted) came old new start history calls fits r =
     omega (arith, a, b)) in
     let before : added.before ≡ length front = (let a = added.number_is in let b = t.action_is in omega (arith, a, b, many)) in
     let first : take added.before r.then_history ≡ front = ap (λ (n : ℕ). take n r.then_history) before
-    ∙ ap (λ (l : List Action). take (length front) l) t.history_is ∙ take_at front (act ∷ behind) (length front) refl in
+    ∙ ap (λ (l : List Action). take (length front) l) t.history_is ∙ take_at front (act ∷ later_acts) (length front) refl in
     let kept : (e : Entry)
     → contents_after start front e ≡ contents_after start history e = λ e. after_nothing start history (shapes (length calls) t.before) e (all_shapes_say (length calls) t.before e) in
-    let whole : r.then_history ≡ (front ++ act ∷ []) ++ behind = t.history_is ∙ sym (append_assoc front (act ∷ []) behind) in
+    let whole : r.then_history ≡ (front ++ act ∷ []) ++ later_acts = t.history_is ∙ sym (append_assoc front (act ∷ []) later_acts) in
     let absent : has_entry g old.store entry ≡ false =
     fits.explains.contents entry ∙ sym (kept entry) ∙ ap (λ (l : List Action). contents_after start l entry) (sym first) ∙ added.was_absent in
     let grown : (e : Entry) → has_entry g new.store e ≡ (same_entry entry e || has_entry g old.store e) = λ e. r.ran.fits.explains.contents e ∙ ap (λ (l : List Action). contents_after start l e) whole
-    ∙ after_nothing start (front ++ act ∷ []) behind e (all_shapes_say (length calls) t.behind e) ∙ contents_after-add start front (length calls) entry e
+    ∙ after_nothing start (front ++ act ∷ []) later_acts e (all_shapes_say (length calls) t.shapes_after e) ∙ contents_after-add start front (length calls) entry e
     ∙ ap (λ (b : Bool). same_entry entry e || b) (kept e ∙ sym (fits.explains.contents e)) in
     record {
       was_absent = absent;
       key_was_absent = λ unique. key_was_free (has_entry g old.store) (has_entry g new.store) entry grown absent
-          (r.ran.fits.explains.keyed (ap (λ (f : Format). f.unique) (limits_stay g 63 (InsertMeans 63 entry (Ok inserted)) came old new start history calls r) ∙ unique)).keys;
+          (r.ran.fits.explains.keyed (ap (λ (f : Format). f.unique) (format_stays g 63 (InsertMeans 63 entry (Ok inserted)) came old new start history calls r) ∙ unique)).keys;
       contents = grown;
       since = (let a = t.action_is in let b : (g.state old.store).acts ≡ length history = fits.explains.count in omega (arith, a, b));
       until = (
           let a = t.action_is in
           let b : (g.state new.store).acts ≡ length r.then_history = r.ran.fits.explains.count in
-          let c : length r.then_history ≡ length front + length (act ∷ behind) = ap (λ (l : List Action). length l) t.history_is ∙ length-append front (act ∷ behind) in
-          let d : length (act ∷ behind) ≡ suc (length behind) = refl in
+          let c : length r.then_history ≡ length front + length (act ∷ later_acts) = ap (λ (l : List Action). length l) t.history_is ∙ length-append front (act ∷ later_acts) in
+          let d : length (act ∷ later_acts) ≡ suc (length later_acts) = refl in
           omega (arith, a, b, c, d, many));
     }
 told_or_kept g entry (Err fault) came old new start history calls fits r =

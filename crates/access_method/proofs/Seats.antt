@@ -13,7 +13,7 @@ use Rattle.session_calls.specs.Slots.{is_of_sets}
 use Rattle.session_calls.specs.declared.request.Request.{Request}
 use Rattle.std.specs.Prelude.{◌&&◌, not}
 use Rattle.access_method.proofs.Imports.{seat_for, BulkDeleteOp, sitter_of, IsVacuumSeat, NoVacuumIsOpen}
-use Rattle.access_method.specs.declared.token.Seat.{Seat}
+use Rattle.access_method.specs.declared.token.OpenScan.{OpenScan}
 use Rattle.access_method.specs.declared.token.Sitter.{Sitter}
 use Rattle.access_method.specs.declared.token.Sitter.TheVariants.{Scan as SitsToScan, Vacuum as SitsToVacuum}
 
@@ -31,22 +31,22 @@ pub none_seated : (n i : ℕ) (seats : List (Option Sitter)) → seats ≡ repli
 none_seated n i seats is at = (let e : Some SitsToVacuum ≡ None = in_replicate n None (Some SitsToVacuum) i (ap (λ (l : List (Option Sitter)). slice_get l i) (sym is) ∙ at) in absurd cc)
 
 -- the seat that is read there is the token's, or another's
-pub seat_found : (seats : List (Option Sitter)) (session number : ℕ) (seat : Seat) → session < length seats → get_or seats session None ≡ Some (SitsToScan seat)
+pub seat_found : (seats : List (Option Sitter)) (session number : ℕ) (seat : OpenScan) → session < length seats → get_or seats session None ≡ Some (SitsToScan seat)
     → seat.number ≡ number
     → Some seat ≡ seat_for number (slice_get seats session)
 seat_found seats session number seat within is same = rw (slice_get-get_or seats session None within, is, eq-eqb seat.number number same) refl
 
-pub seat_of_another : (seats : List (Option Sitter)) (session number : ℕ) (seat : Seat) → session < length seats → get_or seats session None ≡ Some (SitsToScan seat)
+pub seat_of_another : (seats : List (Option Sitter)) (session number : ℕ) (seat : OpenScan) → session < length seats → get_or seats session None ≡ Some (SitsToScan seat)
     → seat.number ≢ number
     → None ≡ seat_for number (slice_get seats session)
 seat_of_another seats session number seat within is other = rw (slice_get-get_or seats session None within, is, ne_eqb seat.number number other) refl
 
 -- a token is open and not refused: its seat is not none, and not a refused one
-pub not_refused : (found : Option Seat) (seat : Seat) (number : ℕ) → found ≡ Some seat → seat.is_refused ≡ true
+pub not_refused : (found : Option OpenScan) (seat : OpenScan) (number : ℕ) → found ≡ Some seat → seat.is_refused ≡ true
     → found ≡ Some (record { number = number; is_refused = false }) → ⊥
 not_refused found seat number is refused is_open = true≢false (sym refused ∙ ap is_refused_in (sym is ∙ is_open))
   where
-    is_refused_in : Option Seat → Bool
+    is_refused_in : Option OpenScan → Bool
     is_refused_in None = false
     is_refused_in (Some s) = s.is_refused
 
@@ -109,19 +109,19 @@ module _ (old new : List (Option Op)) (seats : List (Option Sitter)) (session : 
       one = λ one other h k. agree.one one other (was_vacuums one h) (was_vacuums other k);
     }
 
-  no_vacuum_sits : (seat : Option Seat) → sitter_of seat ≡ Some SitsToVacuum → ⊥
+  no_vacuum_sits : (seat : Option OpenScan) → sitter_of seat ≡ Some SitsToVacuum → ⊥
   no_vacuum_sits None e = cc
   no_vacuum_sits (Some seat) e = cc
 
   -- a seat is changed, whose session runs nothing
-  pub agree_over : (seat : Option Seat) → session < length seats → slot_of new session ≡ None → SeatsAgree new (slice_set seats session (sitter_of seat))
+  pub agree_over : (seat : Option OpenScan) → session < length seats → slot_of new session ≡ None → SeatsAgree new (slice_set seats session (sitter_of seat))
   agree_over seat within over = agree_changed (sitter_of seat) (no_vacuum_sits seat) within (λ other h. elim (cases_eq other session) [
     | inl same ↦ subst (λ (n : ℕ). slot_of new n ≡ None) (sym same) over
     | inr apart ↦ stays_at old new session other stay apart ∙ agree.free other (sym (get_set_other seats session other (sitter_of seat) apart) ∙ h)
   ]) (ap slot_vacuums over)
 
   -- a seat is taken by a scan
-  pub agree_taken : (seat : Seat) → session < length seats → slot_vacuums (slot_of new session) ≡ false → SeatsAgree new (slice_set seats session (Some (SitsToScan seat)))
+  pub agree_taken : (seat : OpenScan) → session < length seats → slot_vacuums (slot_of new session) ≡ false → SeatsAgree new (slice_set seats session (Some (SitsToScan seat)))
   agree_taken seat within calm = agree_changed (Some (SitsToScan seat)) (no_vacuum_sits (Some seat)) within (λ other h. elim (cases_eq other session) [
     | inl same ↦ absurd (let a : Some (Some (SitsToScan seat)) ≡ Some None = sym (here (Some (SitsToScan seat)) (no_vacuum_sits (Some seat)) within other same) ∙ h in cc)
     | inr apart ↦ stays_at old new session other stay apart ∙ agree.free other (sym (get_set_other seats session other (Some (SitsToScan seat)) apart) ∙ h)

@@ -41,7 +41,7 @@ IsOpenFault fault = ⊥
 abbrev pub StaysOnDisk : {D : Type 0} (d : DeviceGhosts D) → Ghosts (Store D d) → ℕ → Index (Store D d) → Index (Store D d) → Type 0
 StaysOnDisk d g count old new = ForEachIndexHistory g old new (λ start history calls. IndexKeeps g old start history calls
     → (image : List ℕ) → MayCrashTo (held_by d new.store).trace.now image
-    → IsIndexAfterPrefix (state_of d new.store).limits start history count image)
+    → IsIndexAfterPrefix (state_of d new.store).format start history count image)
 
 -- ... of the device of an index that was closed
 abbrev pub StaysOnDevice : {D : Type 0} (d : DeviceGhosts D) → Ghosts (Store D d) → ℕ → Index (Store D d) → D → Type 0
@@ -49,7 +49,7 @@ StaysOnDevice d g count index device =
     d.is_honest device ≡ true → (start : Entry → Bool) (history : List Action) (calls : List Call)
     → IndexFits g index start history calls → IndexKeeps g index start history calls
     → (image : List ℕ) → MayCrashTo (d.trace device).now image
-    → IsIndexAfterPrefix (state_of d index.store).limits start history count image
+    → IsIndexAfterPrefix (state_of d index.store).format start history count image
 
 -- the device is that of a last store, which came from the index by calls of its own, and of which this holds
 abbrev pub IsLastOver : {D : Type 0} (d : DeviceGhosts D) → Ghosts (Store D d) → Index (Store D d) → D → (Store D d → Type 0) → Type 0
@@ -57,16 +57,16 @@ IsLastOver {D} d g index device Holds = (last : Store D d) × (device ≡ device
 
 -- the log of a store has not stopped, and is closed: none of its actions waits in it
 abbrev pub IsAtRest : {S : Type 0} → Ghosts S → Format → S → Type 0
-IsAtRest g limits store = ((g.backing store).stopped ≡ false) × LogIsClosed limits (g.backing store)
+IsAtRest g format store = ((g.backing store).stopped ≡ false) × LogIsClosed format (g.backing store)
 
 -- Why an index is not opened in a file that held these bytes when it was taken, and whose device was left so:
 -- a call of the device failed, or else what the opening of it was refused for. A sound index is refused for
 -- want of memory or of the device alone.
 pub record IsNotOpened {D : Type 0} (d : DeviceGhosts D) (Sound : Format → List Page → Type 0) (bytes : ℕ → List ℕ) (frames : ℕ) (fault : Fault) (device : D) : Type 0 where
   pub cause : IsIoOr (IsRefusal (d.is_honest device) frames (first (bytes_before bytes (d.trace device))) (d.trace device)) 0 (d.failures device) fault
-  pub sound : IsTrue (d.is_honest device) → AreFrames frames → (limits : Format) (pages : List Page)
-      → HasIndex limits pages (bytes_before bytes (d.trace device)) → Sound limits pages → IsNoMemoryOrIo fault
+  pub sound : IsTrue (d.is_honest device) → AreFrames frames → (format : Format) (pages : List Page)
+      → HasIndex format pages (bytes_before bytes (d.trace device)) → Sound format pages → IsNoMemoryOrIo fault
 
 -- ... of the pages of any index
 abbrev pub IsAnyIndex : Format → List Page → Type 0
-IsAnyIndex limits pages = ⊤
+IsAnyIndex format pages = ⊤

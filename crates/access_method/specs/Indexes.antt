@@ -42,7 +42,7 @@ use Rattle.access_method.specs.declared.index.Index.{Index}
 use Rattle.access_method.specs.declared.index.NamedRows.{NamedRows}
 use Rattle.access_method.specs.declared.index.NamedRows.TheVariants.{Own, Lent}
 use Rattle.access_method.specs.declared.token.ScanToken.{ScanToken}
-use Rattle.access_method.specs.declared.token.Seat.{Seat}
+use Rattle.access_method.specs.declared.token.OpenScan.{OpenScan}
 use Rattle.access_method.specs.declared.token.Sitter.TheVariants.{Scan as SitsToScan, Vacuum as SitsToVacuum}
 
 -- the rows of the index itself, or of a bulk delete that is run to its end by one call
@@ -134,12 +134,12 @@ pub record IsNewToken {S : Type 0} (old new : Index S) (token : ScanToken) : Typ
   pub seats_is : new.seats ≡ slice_set old.seats token.session (Some (SitsToScan (record { number = token.number; is_refused = false })))
 
 -- the seat of an open token is this now; no other token is changed
-pub record SeatBecomes {S : Type 0} (token : ScanToken) (seat : Option Seat) (old new : Index S) : Type 0 where
+pub record SeatBecomes {S : Type 0} (token : ScanToken) (seat : Option OpenScan) (old new : Index S) : Type 0 where
   pub given_is : new.given ≡ old.given
   pub seats_is : new.seats ≡ slice_set old.seats token.session (sitter_of seat)
 
 -- its seat, answering, or refused
-abbrev pub seat_with : ScanToken → Bool → Option Seat
+abbrev pub seat_with : ScanToken → Bool → Option OpenScan
 seat_with token is_refused = Some (record { number = token.number; is_refused = is_refused })
 
 -- no scan can begin: the log has failed, or a counter is at its end
@@ -178,7 +178,7 @@ has_entry g store e = entry_on_live_leaf (g.state store).pages e
 -- entry; and the action that added it is one since
 pub record IsInserted {S : Type 0} (g : Ghosts S) (entry : Entry) (inserted : Inserted) (old new : S) : Type 0 where
   pub was_absent : has_entry g old entry ≡ false
-  pub key_was_absent : (g.state old).limits.unique ≡ true → (row : Row) → has_entry g old (with_row entry row) ≡ false
+  pub key_was_absent : (g.state old).format.unique ≡ true → (row : Row) → has_entry g old (with_row entry row) ≡ false
   pub contents : (e : Entry) → has_entry g new e ≡ (same_entry entry e || has_entry g old e)
   pub since : (g.state old).acts < inserted.action
   pub until : inserted.action ≤ (g.state new).acts
@@ -242,10 +242,10 @@ abbrev pub AnswersScan : ℕ → Result (Option Entry) Fault → (Entry → Bool
 AnswersScan session result start history calls = (number : ℕ) (call : Call) (range : Range) → IsRunningCall calls session number call → call.ask ≡ AskScan range
     → GivesRight start history range call result
 
--- an index of these limits, fitted by the contents of these pages, no action and no call, which keeps that
+-- an index of this format, fitted by the contents of these pages, no action and no call, which keeps that
 -- history; no token is open
-pub record IndexBegins {D : Type 0} (d : DeviceGhosts D) (g : Ghosts (Store D d)) (limits : Format) (pages : List Page) (index : Index (Store D d)) : Type 0 where
-  pub limits_are : (state_of d index.store).limits ≡ limits
+pub record IndexBegins {D : Type 0} (d : DeviceGhosts D) (g : Ghosts (Store D d)) (format : Format) (pages : List Page) (index : Index (Store D d)) : Type 0 where
+  pub format_is : (state_of d index.store).format ≡ format
   pub fits : IndexFits g index (entry_on_live_leaf pages) [] []
   pub keeps : IndexKeeps g index (entry_on_live_leaf pages) [] []
   pub closed : (token : ScanToken) → seat_of index.seats token ≡ None

@@ -3,23 +3,23 @@ use Rattle.std.specs.Prelude.{◌≡◌, ◌≢◌, ℕ, true, ◌==◌, if◌th
 use Rattle.session_calls.specs.declared.op.Op.{Op}
 use Rattle.session_calls.specs.Slots.{slot_of, slot_vacuums}
 use Rattle.access_method.specs.declared.token.ScanToken.{ScanToken}
-use Rattle.access_method.specs.declared.token.Seat.{Seat}
+use Rattle.access_method.specs.declared.token.OpenScan.{OpenScan}
 use Rattle.access_method.specs.declared.token.Sitter.{Sitter}
 use Rattle.access_method.specs.declared.token.Sitter.TheVariants.{Scan, Vacuum}
 
 -- the seat of this token's session, if it is the token's
-abbrev pub seat_for : ℕ → Option (Option Sitter) → Option Seat
+abbrev pub seat_for : ℕ → Option (Option Sitter) → Option OpenScan
 seat_for number None = None
 seat_for number (Some None) = None
 seat_for number (Some (Some Vacuum)) = None
 seat_for number (Some (Some (Scan seat))) = if seat.number == number then Some seat else None
 
 -- the seat of a token that is open
-abbrev pub seat_of : List (Option Sitter) → ScanToken → Option Seat
+abbrev pub seat_of : List (Option Sitter) → ScanToken → Option OpenScan
 seat_of seats token = seat_for token.number (slice_get seats token.session)
 
 -- a scan's seat, or none
-abbrev pub sitter_of : Option Seat → Option Sitter
+abbrev pub sitter_of : Option OpenScan → Option Sitter
 sitter_of None = None
 sitter_of (Some seat) = Some (Scan seat)
 

@@ -234,9 +234,9 @@ pub fn open_store<R: Files<File = File>, S: Start>(
     ensures same { IfOk result (λ store.
         let g = ⟦<FileDevice<S> as Device>⟧ in
         IsTrue (g.is_honest (device_of g store))
-        → (limits : Format) (pages : List Page)
-        → HasIndex limits pages (bytes_before S.Start.bytes (g.trace (device_of g store)))
-        → IsSameIndex g limits pages store) }
+        → (format : Format) (pages : List Page)
+        → HasIndex format pages (bytes_before S.Start.bytes (g.trace (device_of g store)))
+        → IsSameIndex g format pages store) }
     // An index in the file is refused for want of memory or of the device alone.
     ensures cause { IfErr result (λ not_opened. IfSome not_opened.device
         (IsNotOpened ⟦<FileDevice<S> as Device>⟧ IsAnyIndex S.Start.bytes frames not_opened.fault)) }
@@ -267,10 +267,10 @@ pub fn open<R: Files<File = File>, S: Start>(
     ensures begins { IfOk result (λ index.
         let d = ⟦<FileDevice<S> as Device>⟧ in
         IsTrue (d.is_honest (device_of d index.store))
-        → (limits : Format) (pages : List Page)
-        → HasIndex limits pages (bytes_before S.Start.bytes (d.trace (device_of d index.store)))
-        → IsTreeFor limits pages
-        → IndexBegins d ⟦<Store<FileDevice<S>> as PageStore>⟧ limits pages index) }
+        → (format : Format) (pages : List Page)
+        → HasIndex format pages (bytes_before S.Start.bytes (d.trace (device_of d index.store)))
+        → IsTreeFor format pages
+        → IndexBegins d ⟦<Store<FileDevice<S>> as PageStore>⟧ format pages index) }
     // It has as many frames as were asked for, 16 or more.
     ensures frames { IfOk result (λ index.
         (state_of ⟦<FileDevice<S> as Device>⟧ index.store).frames ≡ frames) }
@@ -310,7 +310,7 @@ pub fn close<D: Device>(index: Index<Store<D>>) -> Closed<D>
         StaysOnDevice D.Device ⟦<Store<D> as PageStore>⟧ n index result.device) }
     // None of them waits in the log.
     ensures empties { OnOk result.written (IsLastOver D.Device ⟦<Store<D> as PageStore>⟧ index result.device
-        (IsAtRest ⟦<Store<D> as PageStore>⟧ (state_of D.Device index.store).limits)) }
+        (IsAtRest ⟦<Store<D> as PageStore>⟧ (state_of D.Device index.store).format)) }
     ensures cause { IfErr result.written (λ fault. IsLastOver D.Device ⟦<Store<D> as PageStore>⟧ index
         result.device (λ last.
         HasCause (causes_of_forced (⟦<Store<D> as PageStore>⟧.backing index.store)

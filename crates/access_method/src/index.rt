@@ -8,7 +8,7 @@ ghost use Rattle.vacuum.specs.Counts.{deleted_count, free_count};
 
 use crate::info::IndexInfo;
 use crate::rows::RowSet;
-use crate::token::{ScanToken, Seat, Sitter};
+use crate::token::{OpenScan, ScanToken, Sitter};
 use device::Device;
 use index_model::{DeadRows, Entry, Fault, Range, RowAddr, Session, VacuumStats};
 use page_action::PageStore;
@@ -43,7 +43,7 @@ pub struct Index<S> {
 
 /// Why an index was not made, with the store as it was.
 #[derive(Drop)]
-pub struct NotMade<S> {
+pub struct IndexNotMade<S> {
     pub fault: Fault,
     pub store: S,
 }
@@ -163,7 +163,7 @@ impl<S: PageStore> Index<S> {
     /// An index over the store, with no call and no open scan. Where the store's pages are in order and it
     /// has made no act, the index is fitted by the contents of its pages, no actions and no calls; over an
     /// own device it keeps them over crashes. Refused with `NoMemory` (1), with the store given back.
-    pub fn new(alloc: Global, store: S) -> Result<Index<S>, NotMade<S>>
+    pub fn new(alloc: Global, store: S) -> Result<Index<S>, IndexNotMade<S>>
         ensures store { IfOk result (λ index. index.store ≡ store) }
         ensures fits { IsUnused (S.state store) → IfOk result (λ index.
             IndexFits S.PageStore index (entry_on_live_leaf (S.state store).pages) [] []) }
@@ -182,7 +182,7 @@ impl<S: PageStore> Index<S> {
                 rows: RowSet::new(),
                 given: 0,
             }),
-            Err(fault) => Err(NotMade { fault, store }),
+            Err(fault) => Err(IndexNotMade { fault, store }),
         }
     }
 
@@ -334,7 +334,7 @@ impl<S: PageStore> Index<S> {
             ≡ (S.state self.old.store).acts) }
         ensures alive { OnOk result ((S.backing self.new.store).stopped ≡ false) }
         ensures room { OnOk result
-            (LogIsClosed (S.state self.old.store).limits (S.backing self.new.store)) }
+            (LogIsClosed (S.state self.old.store).format (S.backing self.new.store)) }
         ensures cause { IfErr result
             (HasCause (causes_of_forced (S.backing self.old.store) (S.backing self.new.store))) }
         ensures tokens { SameTokens self.old self.new }
@@ -345,7 +345,7 @@ impl<S: PageStore> Index<S> {
     /// What the index is: its sizes, its pages, and whether it has stopped. It makes no call of the device,
     /// and goes over the numbers of the blocks in use.
     pub fn info(&self) -> IndexInfo
-        ensures limits { result.limits ≡ sizes_of (S.state self.now.store).limits }
+        ensures limits { result.limits ≡ sizes_of (S.state self.now.store).format }
         ensures used { result.pages_used ≡ length (S.state self.now.store).pages }
         ensures deleted { result.pages_deleted ≡ deleted_count (S.state self.now.store)
             (length (S.state self.now.store).pages) }
@@ -365,7 +365,7 @@ impl<S: PageStore> Index<S> {
     }
 
     // The seat of an open token.
-    fn find(&self, token: ScanToken) -> Option<Seat>
+    fn find(&self, token: ScanToken) -> Option<OpenScan>
         ensures value { result ≡ seat_of self.now.seats token }
         ensures low { OnSome result (token.session < 63) }
     {
@@ -437,7 +437,7 @@ impl<S: PageStore> Index<S> {
         ) {
             Ok(given) => Ok(given),
             Err(fault) => {
-                self.seats[token.session as usize] = Some(Sitter::Scan(Seat {
+                self.seats[token.session as usize] = Some(Sitter::Scan(OpenScan {
                     number: token.number,
                     is_refused: true,
                 }));
@@ -524,7 +524,7 @@ impl<S: PageStore> Index<S> {
             range,
         )?;
         let number = self.given;
-        self.seats[at] = Some(Sitter::Scan(Seat {
+        self.seats[at] = Some(Sitter::Scan(OpenScan {
             number,
             is_refused: false,
         }));
@@ -577,7 +577,7 @@ impl<S: PageStore> Index<S> {
             token.session,
             range,
         )?;
-        self.seats[token.session as usize] = Some(Sitter::Scan(Seat {
+        self.seats[token.session as usize] = Some(Sitter::Scan(OpenScan {
             number: token.number,
             is_refused: false,
         }));
@@ -644,18 +644,18 @@ impl<D: Device> Index<Store<D>> {
         // An index whose pages are a B-link tree, of a unique one keyed, is opened with them, or refused for
         // want of memory or of the device.
         ensures begins { IsTrue (D.is_honest (index_device D.Device result)) → AreFrames frames
-            → (limits : Format) (pages : List Page)
-            → HasIndex limits pages (D.trace device).now.seen → IsTreeFor limits pages
-            → MatchResult result (IndexBegins D.Device ⟦<Store<D> as PageStore>⟧ limits pages)
+            → (format : Format) (pages : List Page)
+            → HasIndex format pages (D.trace device).now.seen → IsTreeFor format pages
+            → MatchResult result (IndexBegins D.Device ⟦<Store<D> as PageStore>⟧ format pages)
             (λ refused. IsNoMemoryOrIo refused.fault) }
         // It has as many frames as were asked for, 16 or more.
         ensures frames { IfOk result (λ index. (state_of D.Device index.store).frames ≡ frames) }
         ensures range { OnOk result (AreFrames frames) }
         // A crash at each moment since leaves the same index, whatever was answered.
         ensures moments { IsTrue (D.is_honest (index_device D.Device result))
-            → (limits : Format) (pages : List Page)
-            → HasIndex limits pages (D.trace device).now.seen
-            → AtEachMoment (CrashesToPages limits pages) (D.trace device)
+            → (format : Format) (pages : List Page)
+            → HasIndex format pages (D.trace device).now.seen
+            → AtEachMoment (CrashesToPages format pages) (D.trace device)
             (D.trace (index_device D.Device result)) }
         ensures len { length (D.trace (index_device D.Device result)).now.seen
             ≡ length (D.trace device).now.seen }
@@ -667,7 +667,7 @@ impl<D: Device> Index<Store<D>> {
         match recovery::open(alloc, device, frames) {
             Ok(store) => match Index::new(alloc, store) {
                 Ok(index) => Ok(index),
-                Err(NotMade { fault, store }) => Err(Refused {
+                Err(IndexNotMade { fault, store }) => Err(Refused {
                     fault,
                     device: store.into_device(),
                 }),
@@ -687,7 +687,7 @@ impl<D: Device> Index<Store<D>> {
             → IndexKeeps ⟦<Store<D> as PageStore>⟧ self.now start history calls
             → (image : List ℕ) → MayHaveCrashedTo (held_by D.Device first).trace
             (held_by D.Device self.now.store).trace image
-            → IsIndexAfterPrefix (state_of D.Device self.now.store).limits start history
+            → IsIndexAfterPrefix (state_of D.Device self.now.store).format start history
             (backing_of (held_by D.Device first)).durable image }
     {}
 

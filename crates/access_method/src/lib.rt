@@ -13,7 +13,7 @@ mod watched;
 
 // What a caller names beside them.
 pub use device::{FileDevice, Start, Unknown, Zeros};
-pub use index::{Index, NotMade};
+pub use index::{Index, IndexNotMade};
 pub use index_model::{
     DeadRows, Entry, Fault, Key, Limits, NoProgress, Progress, Range, RowAddr, VacuumStats,
 };

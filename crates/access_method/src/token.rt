@@ -9,7 +9,7 @@ pub struct ScanToken {
 
 /// What a session's open scan is known by.
 #[derive(Clone, Copy)]
-pub(crate) struct Seat {
+pub(crate) struct OpenScan {
     /// The number of its token.
     pub(crate) number: u64,
     /// A fault has ended its call.
@@ -20,7 +20,7 @@ pub(crate) struct Seat {
 #[derive(Clone, Copy)]
 pub(crate) enum Sitter {
     /// An open scan.
-    Scan(Seat),
+    Scan(OpenScan),
     /// The bulk delete or cleanup that goes on in parts.
     Vacuum,
 }

@@ -1,9 +1,9 @@
 -- The stops of the chains of all levels, each at its place.
 use Rattle.std.proofs.Common.{◌≡◌, ◌⊎◌, ℕ, zero, suc, ◌+◌, ◌-◌, ◌<◌, ◌≤◌, inl, inr, Bool, true, false, nat_lt, Some, None, List, [], ◌∷◌, ◌++◌, length, take, slice_get, get_or, refl, sym, ap, subst, ◌∙◌, arith}
 use Rattle.amcheck.proofs.Imports.{cases_lt, lt-ltb, le-ltb, slice_get-get_or, Index, Place, place_at, Here, IsOnLevel, no_link, has_before, StopsAreAll, AreAllStops, IsClearChain, IsChainEnd}
-use Rattle.amcheck.proofs.Imports.{stop_blocks, IsStop, Stop}
-use Rattle.amcheck.specs.declared.walks.End.{End}
-use Rattle.amcheck.specs.declared.walks.End.TheVariants.{Whole, Off, Met}
+use Rattle.amcheck.proofs.Imports.{stop_blocks, IsStop, Stop, met_before, off_level}
+use Rattle.amcheck.specs.declared.walks.WalkEnd.{WalkEnd}
+use Rattle.amcheck.specs.declared.walks.WalkEnd.TheVariants.{Whole, Off, Met}
 use Rattle.amcheck.proofs.Found.{no_stop}
 use Rattle.amcheck.proofs.Walked.{stop_inside}
 
@@ -18,12 +18,12 @@ taken (x ∷ xs) zero le = refl
 taken (x ∷ xs) (suc n) le = (let r = taken xs n (omega arith) in omega (arith, r))
 
 -- a walk along a chain without damage ends at its last page
-pub ends_clear : (ix : Index) (keys : Bool) (depth n : ℕ) (end : End) → depth ≤ ix.top → IsClearChain ix keys depth → IsChainEnd ix depth n end → (place_at ix depth n).block ≡ None
+pub ends_clear : (ix : Index) (keys : Bool) (depth n : ℕ) (end : WalkEnd) → depth ≤ ix.top → IsClearChain ix keys depth → IsChainEnd ix depth n end → (place_at ix depth n).block ≡ None
 ends_clear ix keys depth n Whole deep clear e = e
-ends_clear ix keys depth n (Off b) deep clear e = absurd (clear (record { depth = depth; place = n; block = b; deep = deep; is = e.0 }) 1 refl (inl (refl, e.1)))
+ends_clear ix keys depth n (Off b) deep clear e = absurd (clear (record { depth = depth; place = n; block = b; deep = deep; is = e.0 }) 1 refl (off_level refl e.1))
 ends_clear ix keys depth n (Met s) deep clear e =
     absurd (clear (record { depth = depth; place = n; block = s.block; deep = deep; is = ap (λ (p : Place). p.block) e.0 }) 3 refl
-    (inr (inr (inl (refl, record { earlier = e.2.earlier; before = e.2.before; same = e.2.is })))))
+    (met_before refl (record { earlier = e.2.earlier; before = e.2.before; same = e.2.is })))
 
 -- a stop of two lists is of the first or of the second
 split_get : (front back : List Stop) (k : ℕ) (s : Stop) → slice_get (front ++ back) k ≡ Some s

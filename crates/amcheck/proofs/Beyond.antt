@@ -10,6 +10,7 @@ use Rattle.damages.proofs.TreesSound.{entry_beyond, link_beyond}
 use Rattle.amcheck.proofs.Imports.{Contains, AllByRecursion, Bound, IsPage, IsOfKind, IsLeafIn, LinkBefore, Ascends, StartsLow, Below, Downlink, Items, Meta, Entries, Downlinks, Page, PageState}
 use Rattle.amcheck.proofs.Imports.{Live, HalfDead, Deleted, links_of, node_of, LeftContext, Rises, IsBeyond, LinksWithin, HasNotBeyond, no_link, bool_so, IsNoneOrBeyond, IsSketch, second_bound}
 use Rattle.amcheck.proofs.Imports.{least_bound, HasWrongItem, IsWrong, IsLeastNumber, IsWrongSketch, Sketch}
+use Rattle.amcheck.proofs.Imports.{half_dead_after, linked_wrongly, still_there, too_low, too_much, wrong_item, wrong_keys}
 
 pub first_not : (low : Option Bound) (es : List Entry) → (IsFirstBeyond low es → ⊥) → (e : Entry) × Contains es e × (IsBeyond low (bound_of e) → ⊥)
 first_not low [] h = absurd (h tt)
@@ -122,22 +123,22 @@ not_both false e f = cc
 -- what is wrong as the sketch tells is wrong, and the other way round
 module _ (keys : Bool) (page : Page) (sketch : Sketch) (root : Option ℕ) (s : LeftContext) (block : ℕ) (admitted : IsPage page) (is : IsSketch (node_of page) sketch) where
   pub wrong_to : (n : ℕ) → IsWrongSketch keys sketch root s block n → IsWrong keys (node_of page) root s block n
-  wrong_to n (inl a) = inl (a.0, λ e. a.1 (is.left ∙ e))
-  wrong_to n (inr (inl a)) = inr (inl (a.0, sym is.state ∙ a.1))
-  wrong_to n (inr (inr (inl a))) = inr (inr (inl (a.0, sym is.state ∙ a.1, λ rises. a.2 (subst (Rises s.low) (sym is.high) rises))))
-  wrong_to n (inr (inr (inr (inl a)))) = inr (inr (inr (inl (a.0, least_wrong s.low page admitted (λ beyond. a.1 (subst (IsNoneOrBeyond s.low) (sym is.least) beyond))))))
-  wrong_to n (inr (inr (inr (inr (inl a))))) = inr (inr (inr (inr (inl a))))
-  wrong_to n (inr (inr (inr (inr (inr (inl a)))))) = inr (inr (inr (inr (inr (inl (a.0, sym is.state ∙ a.1, a.2))))))
-  wrong_to n (inr (inr (inr (inr (inr (inr a)))))) = inr (inr (inr (inr (inr (inr (a.0, a.1, λ unique. not_both sketch.unique (is.unique.1 unique) a.2))))))
+  wrong_to n (linked_wrongly k differs) = linked_wrongly k (λ e. differs (is.left ∙ e))
+  wrong_to n (still_there k deleted) = still_there k (sym is.state ∙ deleted)
+  wrong_to n (too_low k live low) = too_low k (sym is.state ∙ live) (λ rises. low (subst (Rises s.low) (sym is.high) rises))
+  wrong_to n (wrong_item k wrong) = wrong_item k (least_wrong s.low page admitted (λ beyond. wrong (subst (IsNoneOrBeyond s.low) (sym is.least) beyond)))
+  wrong_to n (too_much k much) = too_much k much
+  wrong_to n (half_dead_after k dead after) = half_dead_after k (sym is.state ∙ dead) after
+  wrong_to n (wrong_keys k seen shared) = wrong_keys k seen (λ unique. not_both sketch.unique (is.unique.1 unique) shared)
 
   pub wrong_from : (n : ℕ) → IsWrong keys (node_of page) root s block n → IsWrongSketch keys sketch root s block n
-  wrong_from n (inl a) = inl (a.0, λ e. a.1 (sym is.left ∙ e))
-  wrong_from n (inr (inl a)) = inr (inl (a.0, is.state ∙ a.1))
-  wrong_from n (inr (inr (inl a))) = inr (inr (inl (a.0, is.state ∙ a.1, λ rises. a.2 (subst (Rises s.low) is.high rises))))
-  wrong_from n (inr (inr (inr (inl a)))) = inr (inr (inr (inl (a.0, λ beyond. least_right s.low page admitted (subst (IsNoneOrBeyond s.low) is.least beyond) a.1))))
-  wrong_from n (inr (inr (inr (inr (inl a))))) = inr (inr (inr (inr (inl a))))
-  wrong_from n (inr (inr (inr (inr (inr (inl a)))))) = inr (inr (inr (inr (inr (inl (a.0, is.state ∙ a.1, a.2))))))
-  wrong_from n (inr (inr (inr (inr (inr (inr a)))))) = inr (inr (inr (inr (inr (inr (a.0, a.1, bool_so sketch.unique (λ unique. a.2 (is.unique.0 unique))))))))
+  wrong_from n (linked_wrongly k differs) = linked_wrongly k (λ e. differs (sym is.left ∙ e))
+  wrong_from n (still_there k deleted) = still_there k (is.state ∙ deleted)
+  wrong_from n (too_low k live low) = too_low k (is.state ∙ live) (λ rises. low (subst (Rises s.low) is.high rises))
+  wrong_from n (wrong_item k wrong) = wrong_item k (λ beyond. least_right s.low page admitted (subst (IsNoneOrBeyond s.low) is.least beyond) wrong)
+  wrong_from n (too_much k much) = too_much k much
+  wrong_from n (half_dead_after k dead after) = half_dead_after k (is.state ∙ dead) after
+  wrong_from n (wrong_keys k seen shared) = wrong_keys k seen (bool_so sketch.unique (λ unique. shared (is.unique.0 unique)))
 
   pub least_told : (o : Option ℕ) → IsLeastNumber (IsWrongSketch keys sketch root s block) o → IsLeastNumber (IsWrong keys (node_of page) root s block) o
   least_told None least = λ n w. least n (wrong_from n w)
@@ -146,13 +147,13 @@ module _ (keys : Bool) (page : Page) (sketch : Sketch) (root : Option ℕ) (s : 
 pub least_six : (keys : Bool) (sketch : Sketch) (root : Option ℕ) (s : LeftContext) (block : ℕ) → ((sketch.left ≢ s.left) → ⊥) → (sketch.state ≡ Deleted → ⊥)
     → ((sketch.state ≡ Live) × (Rises s.low sketch.high → ⊥) → ⊥)
     → (IsNoneOrBeyond s.low sketch.least → ⊥) → IsLeastNumber (IsWrongSketch keys sketch root s block) (Some 6)
-least_six keys sketch root s block linked stands rises wrong = (inr (inr (inr (inl (refl, wrong)))), less)
+least_six keys sketch root s block linked stands rises wrong = (wrong_item refl wrong, less)
   where
     less : (m : ℕ) → m < 6 → IsWrongSketch keys sketch root s block m → ⊥
-    less m lt (inl a) = linked a.1
-    less m lt (inr (inl a)) = stands a.1
-    less m lt (inr (inr (inl a))) = rises (a.1, a.2)
-    less m lt (inr (inr (inr (inl a)))) = (let k = a.0 in omega arith)
-    less m lt (inr (inr (inr (inr (inl a))))) = (let k = a.0 in omega arith)
-    less m lt (inr (inr (inr (inr (inr (inl a)))))) = (let k = a.0 in omega arith)
-    less m lt (inr (inr (inr (inr (inr (inr a)))))) = (let k = a.0 in omega arith)
+    less m lt (linked_wrongly k differs) = linked differs
+    less m lt (still_there k deleted) = stands deleted
+    less m lt (too_low k live low) = rises (live, low)
+    less m lt (wrong_item k wrong') = omega (arith, k, lt)
+    less m lt (too_much k much) = omega (arith, k, lt)
+    less m lt (half_dead_after k dead after) = omega (arith, k, lt)
+    less m lt (wrong_keys k seen shared) = omega (arith, k, lt)

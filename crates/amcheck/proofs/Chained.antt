@@ -3,44 +3,46 @@ use Rattle.std.proofs.Common.{◌≡◌, ◌≢◌, ◌⊎◌, ℕ, ◌<◌, ◌
 use Rattle.amcheck.proofs.Imports.{cases_lt, slice_get-get_or, LeftContext, Rises, IsUniqueNode, Index, Place, place_at, Here, node, context, IsOnLevel, IsMetBefore, HasNotBeyond, IsAfterRoot}
 use Rattle.amcheck.proofs.Imports.{IsOfChain, no_link, has_before, IsClearChain, IsFirstOfChain, IsEarlier, context_at, IsStop, AreStops, IsRootAt, IsTooMuch, IsWrong, IsWrongAt, IsBad, same_Some}
 use Rattle.amcheck.proofs.Imports.{IsFirstPlace, IsLeastNumber, Stop}
+use Rattle.amcheck.proofs.Imports.{beside_root, dead_after_split, deleted, met_before, not_beyond, not_rising, off_level, shared_key, wrong_left}
+use Rattle.amcheck.proofs.Imports.{half_dead_after, linked_wrongly, still_there, too_low, too_much, wrong_item, wrong_keys}
 use Rattle.amcheck.proofs.Found.{no_stop, wrong_there}
 use Rattle.amcheck.proofs.Walked.{stop_inside}
 
 -- each damage of a chain has a number
 number_some : {ix : Index} (keys : Bool) (h : Here ix) (n : ℕ) → IsOfChain keys h n → 0 < n
-number_some keys h n (inl a) = (let k = a.0 in omega arith)
-number_some keys h n (inr (inl a)) = (let k = a.0 in omega arith)
-number_some keys h n (inr (inr (inl a))) = (let k = a.0 in omega arith)
-number_some keys h n (inr (inr (inr (inl a)))) = (let k = a.0 in omega arith)
-number_some keys h n (inr (inr (inr (inr (inl a))))) = (let k = a.0 in omega arith)
-number_some keys h n (inr (inr (inr (inr (inr (inl a)))))) = (let k = a.0 in omega arith)
-number_some keys h n (inr (inr (inr (inr (inr (inr (inl a))))))) = (let k = a.0 in omega arith)
-number_some keys h n (inr (inr (inr (inr (inr (inr (inr (inl a)))))))) = (let k = a.0 in omega arith)
-number_some keys h n (inr (inr (inr (inr (inr (inr (inr (inr a)))))))) = (let k = a.0 in omega arith)
+number_some keys h n (off_level k off) = omega (arith, k)
+number_some keys h n (wrong_left k differs) = omega (arith, k)
+number_some keys h n (met_before k met) = omega (arith, k)
+number_some keys h n (deleted k gone) = omega (arith, k)
+number_some keys h n (not_rising k live low) = omega (arith, k)
+number_some keys h n (not_beyond k has) = omega (arith, k)
+number_some keys h n (beside_root k top not_root not_after) = omega (arith, k)
+number_some keys h n (dead_after_split k dead after) = omega (arith, k)
+number_some keys h n (shared_key k seen shared) = omega (arith, k)
 
 -- ... that is 1 if the page isn't on the level, 2 if its left link is wrong, and else more
 number_cases : {ix : Index} (keys : Bool) (h : Here ix) (n : ℕ) → IsOfChain keys h n → ((n ≡ 1) × (IsOnLevel ix h.depth h.block → ⊥)) ⊎ ((n ≡ 2) × ((node h).left ≢ (context h).left)) ⊎ (3 ≤ n)
-number_cases keys h n (inl a) = inl a
-number_cases keys h n (inr (inl a)) = inr (inl a)
-number_cases keys h n (inr (inr (inl a))) = inr (inr (let k = a.0 in omega arith))
-number_cases keys h n (inr (inr (inr (inl a)))) = inr (inr (let k = a.0 in omega arith))
-number_cases keys h n (inr (inr (inr (inr (inl a))))) = inr (inr (let k = a.0 in omega arith))
-number_cases keys h n (inr (inr (inr (inr (inr (inl a)))))) = inr (inr (let k = a.0 in omega arith))
-number_cases keys h n (inr (inr (inr (inr (inr (inr (inl a))))))) = inr (inr (let k = a.0 in omega arith))
-number_cases keys h n (inr (inr (inr (inr (inr (inr (inr (inl a)))))))) = inr (inr (let k = a.0 in omega arith))
-number_cases keys h n (inr (inr (inr (inr (inr (inr (inr (inr a)))))))) = inr (inr (let k = a.0 in omega arith))
+number_cases keys h n (off_level k off) = inl (k, off)
+number_cases keys h n (wrong_left k differs) = inr (inl (k, differs))
+number_cases keys h n (met_before k met) = inr (inr (omega (arith, k)))
+number_cases keys h n (deleted k gone) = inr (inr (omega (arith, k)))
+number_cases keys h n (not_rising k live low) = inr (inr (omega (arith, k)))
+number_cases keys h n (not_beyond k has) = inr (inr (omega (arith, k)))
+number_cases keys h n (beside_root k top not_root not_after) = inr (inr (omega (arith, k)))
+number_cases keys h n (dead_after_split k dead after) = inr (inr (omega (arith, k)))
+number_cases keys h n (shared_key k seen shared) = inr (inr (omega (arith, k)))
 
 -- what the root's level asks
-too_much : (ix : Index) (depth : ℕ) (root : Option ℕ) (s : LeftContext) (block : ℕ) → IsRootAt ix depth root → depth ≡ 0 → block ≢ ix.root → (IsAfterRoot ix.root s → ⊥) → IsTooMuch root s block
-too_much ix depth None s block is top not_root not_behind = absurd (omega (arith, is, top))
-too_much ix depth (Some r) s block is top not_root not_behind = (
+is_too_much : (ix : Index) (depth : ℕ) (root : Option ℕ) (s : LeftContext) (block : ℕ) → IsRootAt ix depth root → depth ≡ 0 → block ≢ ix.root → (IsAfterRoot ix.root s → ⊥) → IsTooMuch root s block
+is_too_much ix depth None s block is top not_root not_after_root = absurd (omega (arith, is, top))
+is_too_much ix depth (Some r) s block is top not_root not_after_root = (
   λ same. not_root (same ∙ is.1),
-  λ behind. not_behind (subst (λ (b : ℕ). IsAfterRoot b s) is.1 behind),
+  λ left_is_split. not_after_root (subst (λ (b : ℕ). IsAfterRoot b s) is.1 left_is_split),
 )
 
 too_many : (ix : Index) (depth : ℕ) (root : Option ℕ) (s : LeftContext) (block : ℕ) → IsRootAt ix depth root → IsTooMuch root s block → (depth ≡ 0) × (block ≢ ix.root) × (IsAfterRoot ix.root s → ⊥)
 too_many ix depth None s block is much = absurd much
-too_many ix depth (Some r) s block is much = (is.0, λ same. much.0 (same ∙ sym is.1), λ behind. much.1 (subst (λ (b : ℕ). IsAfterRoot b s) (sym is.1) behind))
+too_many ix depth (Some r) s block is much = (is.0, λ same. much.0 (same ∙ sym is.1), λ left_is_split. much.1 (subst (λ (b : ℕ). IsAfterRoot b s) (sym is.1) left_is_split))
 
 -- a page at this place of the chain
 place_same : {ix : Index} (h : Here ix) (depth place : ℕ) (s : LeftContext) (b : ℕ) → h.depth ≡ depth → h.place ≡ place
@@ -68,33 +70,19 @@ module _ (ix : Index) (keys : Bool) (depth : ℕ) (root : Option ℕ) (stops : L
           are.once m.earlier h.place t s m.before first there (block ∙ told.0)
 
       by : IsOfChain keys h n → IsWrong keys (ix.at s.block) root (context_at ix.at s) s.block n
-      by (inl a) = absurd (a.1 (subst (λ (d : ℕ). IsOnLevel ix d h.block) (sym same) (subst (IsOnLevel ix depth) (sym told.0) (are.on_level h.place s there))))
-      by (inr (inl a)) = inl (a.0, subst (λ (b : ℕ). (ix.at b).left ≢ s.left) told.0 (subst (λ (t : LeftContext). (node h).left ≢ t.left) told.1 a.1))
-      by (inr (inr (inl a))) = absurd (met a.1)
-      by (inr (inr (inr (inl a)))) = inr (inl (a.0, ap (λ (b : ℕ). (ix.at b).state) (sym told.0) ∙ a.1))
-      by (inr (inr (inr (inr (inl a))))) = inr (inr (inl (
-        a.0,
-        ap (λ (b : ℕ). (ix.at b).state) (sym told.0) ∙ a.1,
-        subst (λ (b : ℕ). Rises (context_at ix.at s).low (ix.at b).high → ⊥) told.0 (subst (λ (t : LeftContext). Rises t.low (node h).high → ⊥) told.1 a.2),
-      )))
-      by (inr (inr (inr (inr (inr (inl a)))))) = inr (inr (inr (inl (
-        a.0,
-        record { is = subst (λ (b : ℕ). HasNotBeyond (context_at ix.at s).low (ix.at b)) told.0 (subst (λ (t : LeftContext). HasNotBeyond t.low (node h)) told.1 a.1) },
-      ))))
-      by (inr (inr (inr (inr (inr (inr (inl a))))))) = inr (inr (inr (inr (inl (
-        a.0,
-        subst (λ (b : ℕ). IsTooMuch root (context_at ix.at s) b) told.0 (subst (λ (t : LeftContext). IsTooMuch root t h.block) told.1 (too_much ix depth root (context h) h.block root_is (sym same ∙ a.1) a.2 a.3)),
-      )))))
-      by (inr (inr (inr (inr (inr (inr (inr (inl a)))))))) = inr (inr (inr (inr (inr (inl (
-        a.0,
-        ap (λ (b : ℕ). (ix.at b).state) (sym told.0) ∙ a.1,
-        ap (λ (t : LeftContext). t.behind) (sym told.1) ∙ a.2,
-      ))))))
-      by (inr (inr (inr (inr (inr (inr (inr (inr a)))))))) = inr (inr (inr (inr (inr (inr (
-        a.0,
-        a.1,
-        subst (λ (b : ℕ). IsUniqueNode (ix.at b) → ⊥) told.0 a.2,
-      ))))))
+      by (off_level k off) = absurd (off (subst (λ (d : ℕ). IsOnLevel ix d h.block) (sym same) (subst (IsOnLevel ix depth) (sym told.0) (are.on_level h.place s there))))
+      by (wrong_left k differs) = linked_wrongly k (subst (λ (b : ℕ). (ix.at b).left ≢ s.left) told.0 (subst (λ (t : LeftContext). (node h).left ≢ t.left) told.1 differs))
+      by (met_before k earlier) = absurd (met earlier)
+      by (deleted k gone) = still_there k (ap (λ (b : ℕ). (ix.at b).state) (sym told.0) ∙ gone)
+      by (not_rising k live low) = too_low k (ap (λ (b : ℕ). (ix.at b).state) (sym told.0) ∙ live)
+          (subst (λ (b : ℕ). Rises (context_at ix.at s).low (ix.at b).high → ⊥) told.0 (subst (λ (t : LeftContext). Rises t.low (node h).high → ⊥) told.1 low))
+      by (not_beyond k has) = wrong_item k (record {
+        is = subst (λ (b : ℕ). HasNotBeyond (context_at ix.at s).low (ix.at b)) told.0 (subst (λ (t : LeftContext). HasNotBeyond t.low (node h)) told.1 has);
+      })
+      by (beside_root k top not_root not_after) = too_much k (subst (λ (b : ℕ). IsTooMuch root (context_at ix.at s) b) told.0
+          (subst (λ (t : LeftContext). IsTooMuch root t h.block) told.1 (is_too_much ix depth root (context h) h.block root_is (sym same ∙ top) not_root not_after)))
+      by (dead_after_split k dead after) = half_dead_after k (ap (λ (b : ℕ). (ix.at b).state) (sym told.0) ∙ dead) (ap (λ (t : LeftContext). t.left_is_split) (sym told.1) ∙ after)
+      by (shared_key k seen shared) = wrong_keys k seen (subst (λ (b : ℕ). IsUniqueNode (ix.at b) → ⊥) told.0 shared)
 
   wrong_at : (h : Here ix) (n : ℕ) → h.depth ≡ depth → h.place < length stops → IsOfChain keys h n → IsWrongAt ix.at keys root stops h.place n
   wrong_at h n same inside damage =
@@ -103,13 +91,13 @@ module _ (ix : Index) (keys : Bool) (depth : ℕ) (root : Option ℕ) (stops : L
 
   -- what is wrong at a stop is a damage there
   is_damage : (h : Here ix) (n : ℕ) → h.depth ≡ depth → IsWrong keys (node h) root (context h) h.block n → IsOfChain keys h n
-  is_damage h n same (inl a) = inr (inl a)
-  is_damage h n same (inr (inl a)) = inr (inr (inr (inl a)))
-  is_damage h n same (inr (inr (inl a))) = inr (inr (inr (inr (inl a))))
-  is_damage h n same (inr (inr (inr (inl a)))) = inr (inr (inr (inr (inr (inl (a.0, a.1.is))))))
-  is_damage h n same (inr (inr (inr (inr (inl a))))) = (let m = too_many ix depth root (context h) h.block root_is a.1 in inr (inr (inr (inr (inr (inr (inl (a.0, same ∙ m.0, m.1, m.2))))))))
-  is_damage h n same (inr (inr (inr (inr (inr (inl a)))))) = inr (inr (inr (inr (inr (inr (inr (inl a)))))))
-  is_damage h n same (inr (inr (inr (inr (inr (inr a)))))) = inr (inr (inr (inr (inr (inr (inr (inr a)))))))
+  is_damage h n same (linked_wrongly k differs) = wrong_left k differs
+  is_damage h n same (still_there k gone) = deleted k gone
+  is_damage h n same (too_low k live low) = not_rising k live low
+  is_damage h n same (wrong_item k wrong) = not_beyond k wrong.is
+  is_damage h n same (too_much k much) = (let m = too_many ix depth root (context h) h.block root_is much in beside_root k (same ∙ m.0) m.1 m.2)
+  is_damage h n same (half_dead_after k dead after) = dead_after_split k dead after
+  is_damage h n same (wrong_keys k seen shared) = shared_key k seen shared
 
   pub first_at : (k n : ℕ) (s : Stop) → slice_get stops k ≡ Some s → IsFirstPlace (IsBad ix.at keys root stops) (Some k)
       → IsLeastNumber (IsWrongAt ix.at keys root stops k) (Some n) → IsFirstOfChain ix keys depth n s.block
@@ -144,7 +132,7 @@ module _ (ix : Index) (keys : Bool) (depth : ℕ) (root : Option ℕ) (stops : L
     first_off b is off = record {
       here = record { depth = depth; place = length stops; block = b; deep = deep; is = is };
       deep = refl;
-      is = inl (refl, off);
+      is = off_level refl off;
       block_is = refl;
       first = λ other m same damage earlier. elim earlier [
         | inl lt ↦ clear_before other m same lt damage
@@ -162,7 +150,7 @@ module _ (ix : Index) (keys : Bool) (depth : ℕ) (root : Option ℕ) (stops : L
       first_two differs = record {
         here = record { depth = depth; place = length stops; block = s.block; deep = deep; is = ap (λ (p : Place). p.block) placed };
         deep = refl;
-        is = inr (inl (refl, subst (λ (p : Place). (ix.at s.block).left ≢ p.context.left) (sym placed) differs));
+        is = wrong_left refl (subst (λ (p : Place). (ix.at s.block).left ≢ p.context.left) (sym placed) differs);
         block_is = refl;
         first = λ other m same damage earlier. elim earlier [
           | inl lt ↦ clear_before other m same lt damage
@@ -178,7 +166,7 @@ module _ (ix : Index) (keys : Bool) (depth : ℕ) (root : Option ℕ) (stops : L
       first_three left before = record {
         here = record { depth = depth; place = length stops; block = s.block; deep = deep; is = ap (λ (p : Place). p.block) placed };
         deep = refl;
-        is = inr (inr (inl (refl, record { earlier = before.earlier; before = before.before; same = before.is })));
+        is = met_before refl (record { earlier = before.earlier; before = before.before; same = before.is });
         block_is = refl;
         first = λ other m same damage earlier. elim earlier [
           | inl lt ↦ clear_before other m same lt damage

@@ -51,14 +51,14 @@ rest_twice pinned (x ∷ xs) (suc k) j = elim (cases_Bool (is_block_among pinned
 all_tail : (P : ℕ → Type 0) (x : ℕ) (xs : List ℕ) → All P (x ∷ xs) → All P xs
 all_tail P x xs all = λ k d less. all (suc k) d (omega (arith, less))
 
-gone_behind : (pinned more rest : List ℕ) → All (λ b. is_block_among pinned b ≡ false) more → without_first pinned (length more) (more ++ rest) ≡ rest
-gone_behind pinned [] rest all = refl
-gone_behind pinned (x ∷ more) rest all =
-    without_gone pinned (length more) x (more ++ rest) (all 0 0 (omega arith)) ∙ gone_behind pinned more rest (all_tail (λ b. is_block_among pinned b ≡ false) x more all)
+without_pinned : (pinned more rest : List ℕ) → All (λ b. is_block_among pinned b ≡ false) more → without_first pinned (length more) (more ++ rest) ≡ rest
+without_pinned pinned [] rest all = refl
+without_pinned pinned (x ∷ more) rest all =
+    without_gone pinned (length more) x (more ++ rest) (all 0 0 (omega arith)) ∙ without_pinned pinned more rest (all_tail (λ b. is_block_among pinned b ≡ false) x more all)
 
 gone_after : (pinned front more rest : List ℕ) → All (λ b. is_block_among pinned b ≡ true) front → All (λ b. is_block_among pinned b ≡ false) more
     → (count : ℕ) × (without_first pinned count (front ++ (more ++ rest)) ≡ front ++ rest)
-gone_after pinned [] more rest front_all all = (length more, gone_behind pinned more rest all)
+gone_after pinned [] more rest front_all all = (length more, without_pinned pinned more rest all)
 gone_after pinned (x ∷ front) more rest front_all all =
     let early = gone_after pinned front more rest (all_tail (λ b. is_block_among pinned b ≡ true) x front front_all) all in
     (suc early.0, without_kept pinned early.0 x (front ++ (more ++ rest)) (front_all 0 0 (omega arith)) ∙ ap (λ (l : List ℕ). x ∷ l) early.1)

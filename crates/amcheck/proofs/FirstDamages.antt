@@ -1,7 +1,7 @@
 -- What the search for the first damage of the chains comes to.
 use Rattle.std.proofs.Common.{◌≡◌, ℕ, ◌<◌, ◌≤◌, inl, inr, Bool, false, Option, Some, None, List, [], ◌∷◌, length, slice_get, refl, sym, ap, subst, ◌∙◌, arith}
 use Rattle.amcheck.proofs.Imports.{slice_get_within, IsSome, Result, Ok, Err, IfOk, IfErr, OnOk, Fault, IsBlock, IsPage, IsOfKind, Items, Meta, Entries, Downlinks, Page, Node, nodes_of, node_from}
-use Rattle.amcheck.proofs.Imports.{node_of, IsTree, index_of, or_block, Site, IsDamage, IsSound, IsFirstDamage, ComesBefore, rank, on_way, on_chain, at_child, at_page, nowhere, page_there, false≢true}
+use Rattle.amcheck.proofs.Imports.{node_of, index_of, or_block, Site, IsDamage, IsSound, IsFirstDamage, ComesBefore, rank, on_way, on_chain, at_child, at_page, nowhere, page_there, false≢true}
 use Rattle.amcheck.proofs.Imports.{NamesRoot, StandAtTheirBlocks, IsAnswer, IsReport, CheckFault, Damaged, Refused, Damage, Report}
 
 none_of_length : (pages : List Page) → length pages ≡ 0 → pages ≡ []

@@ -4,7 +4,7 @@ use Rattle.amcheck.proofs.Imports.{Node, context_at, IsWrong, IsWrongAt, IsBad, 
 use Rattle.amcheck.proofs.Walked.{stop_inside}
 
 abbrev pub no_stop : Stop
-no_stop = record { block = 0; low_at = None; left = None; behind = false }
+no_stop = record { block = 0; low_at = None; left = None; left_is_split = false }
 
 pub bad_inside : (at : ℕ → Node) (keys : Bool) (root : Option ℕ) (stops : List Stop) (k : ℕ) → IsBad at keys root stops k → k < length stops
 bad_inside at keys root stops k bad = stop_inside stops k bad.wrong.stop bad.wrong.there

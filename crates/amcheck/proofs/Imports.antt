@@ -37,6 +37,7 @@ pub use Rattle.damages.proofs.KeysJudged.{more, without_keys}
 pub use Rattle.damages.proofs.Walks.{has_before}
 pub use Rattle.damages.specs.Damages.{ComesBefore, HasNotBeyond, Here, Index, IsAfterRoot, IsDamage, IsFirstDamage, IsMetBefore, IsOfChain, IsOfParents, IsOfPath, IsOnChain, IsOnLevel, IsSecond}
 pub use Rattle.damages.specs.Damages.{IsSound, IsUnlinked, Item, Place, Site, first_child, index_of, left_after_steps, next_place, node, or_block, place_at, rank, context, start}
+pub use Rattle.damages.specs.Damages.IsOfChain.{beside_root, dead_after_split, deleted, met_before, not_beyond, not_rising, off_level, shared_key, wrong_left}
 pub use Rattle.damages.specs.Damages.Site.{at_child, at_page, nowhere, on_chain, on_way}
 pub use Rattle.amcheck.specs.AllStops.{AreAllStops, HasNoStop, HaveBlocksOnce, IsAt, IsStopOf, PlacesAreOfStops, StopsAreAll}
 pub use Rattle.amcheck.specs.Answers.{IsAnswer}
@@ -57,6 +58,7 @@ pub use Rattle.amcheck.specs.Searching.{AreSearchable}
 pub use Rattle.amcheck.specs.Sketches.{HoldSketches, HasGrown, HoldsSketch, IsSketch, least_bound, links_at, second_bound}
 pub use Rattle.amcheck.specs.Sound.{HasLevelsFor, IsSoundTree}
 pub use Rattle.amcheck.specs.Stops.{AreStops, HasWrongItem, IsBad, IsFirstPlace, IsLeastNumber, IsRootAt, IsStop, IsTooMuch, IsWrong, IsWrongAt, StopsAreInUse, high_at, context_at, stop_blocks}
+pub use Rattle.amcheck.specs.Stops.IsWrongBy.{half_dead_after, linked_wrongly, still_there, too_low, too_much, wrong_item, wrong_keys}
 pub use Rattle.amcheck.specs.Ways.{IsClearPath, IsFirstOfPath}
 pub use Rattle.amcheck.specs.WrongSketches.{IsWrongSketch}
 pub use Rattle.amcheck.specs.declared.marks.Met.{Met}

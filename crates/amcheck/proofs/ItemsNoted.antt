@@ -51,20 +51,20 @@ no_other_low at stops link none = (λ e. absurd (let k : false ≡ true = e in c
 pub extra_none : (at : ℕ → Node) (stops : List Stop) (linked : List Bool) (b : ℕ) → HasNoStop stops b → IsTrue true ↔ IsExtra at stops linked b
 extra_none at stops linked b none = (λ e. record { is = inl none }, λ w. refl)
 
-pub extra_skipped : (at : ℕ → Node) (stops : List Stop) (linked : List Bool) (b : ℕ) (s : Stop) → IsStopOf stops b s → IsSkipped (at b) s.behind → IsTrue true ↔ IsExtra at stops linked b
+pub extra_skipped : (at : ℕ → Node) (stops : List Stop) (linked : List Bool) (b : ℕ) (s : Stop) → IsStopOf stops b s → IsSkipped (at b) s.left_is_split → IsTrue true ↔ IsExtra at stops linked b
 extra_skipped at stops linked b s f skipped = (
-  λ e. record { is = inr (inl (record { stop = s; is = f; skipped = subst (λ (c : ℕ). IsSkipped (at c) s.behind) (sym f.is) skipped })) },
+  λ e. record { is = inr (inl (record { stop = s; is = f; skipped = subst (λ (c : ℕ). IsSkipped (at c) s.left_is_split) (sym f.is) skipped })) },
   λ w. refl,
 )
 
 pub extra_linked : (r : Bool) (at : ℕ → Node) (stops : List Stop) (linked : List Bool) (b : ℕ) (s : Stop) → HaveBlocksOnce stops → IsStopOf stops b s
-    → (IsSkipped (at b) s.behind → ⊥) → r ≡ get_or linked b false
+    → (IsSkipped (at b) s.left_is_split → ⊥) → r ≡ get_or linked b false
     → IsTrue r ↔ IsExtra at stops linked b
 extra_linked r at stops linked b s once f not r_is = (λ e. record { is = inr (inr (sym r_is ∙ e)) }, λ w. by w.is)
   where
     by : HasNoStop stops b ⊎ IsSkippedStop at stops b ⊎ (get_or linked b false ≡ true) → r ≡ true
     by (inl none) = absurd (no_stop_of stops b s none f)
-    by (inr (inl h)) = absurd (not (subst (λ (t : Stop). IsSkipped (at b) t.behind) (one_stop stops b h.stop s once h.is f) (subst (λ (c : ℕ). IsSkipped (at c) h.stop.behind) h.is.is h.skipped)))
+    by (inr (inl h)) = absurd (not (subst (λ (t : Stop). IsSkipped (at b) t.left_is_split) (one_stop stops b h.stop s once h.is f) (subst (λ (c : ℕ). IsSkipped (at c) h.stop.left_is_split) h.is.is h.skipped)))
     by (inr (inr marked)) = r_is ∙ marked
 
 -- the first child that isn't below
@@ -179,20 +179,20 @@ module _ (at : ℕ → Node) (stops : List Stop) (linked : List Bool) (links : L
   Wrong = IsWrongAmong at stops linked links top node stop
 
   module _ (right : HasWrongBound at stops links → ⊥) where
-    pub least_eight : LacksLink top node stop.behind (get_or linked stop.block false) → IsLeastNumber Wrong (Some 8)
+    pub least_eight : LacksLink top node stop.left_is_split (get_or linked stop.block false) → IsLeastNumber Wrong (Some 8)
     least_eight wrong = (record { is = inr (inl (refl, wrong)) }, λ m lt w. less m lt w.is)
       where
-        less : (m : ℕ) → m < 8 → ((m ≡ 7) × HasWrongBound at stops links) ⊎ ((m ≡ 8) × LacksLink top node stop.behind (get_or linked stop.block false)) ⊎ ((m ≡ 9) × HasExtra at stops linked links) → ⊥
+        less : (m : ℕ) → m < 8 → ((m ≡ 7) × HasWrongBound at stops links) ⊎ ((m ≡ 8) × LacksLink top node stop.left_is_split (get_or linked stop.block false)) ⊎ ((m ≡ 9) × HasExtra at stops linked links) → ⊥
         less m lt (inl a) = right a.1
         less m lt (inr (inl a)) = (let k = a.0 in omega (arith, k, lt))
         less m lt (inr (inr a)) = (let k = a.0 in omega (arith, k, lt))
 
-    module _ (linked_too : LacksLink top node stop.behind (get_or linked stop.block false) → ⊥) where
+    module _ (linked_too : LacksLink top node stop.left_is_split (get_or linked stop.block false) → ⊥) where
       pub least_nine : HasExtra at stops linked links → IsLeastNumber Wrong (Some 9)
       least_nine wrong = (record { is = inr (inr (refl, wrong)) }, λ m lt w. less m lt w.is)
         where
           less : (m : ℕ) → m < 9 → ((m ≡ 7) × HasWrongBound at stops links)
-              ⊎ ((m ≡ 8) × LacksLink top node stop.behind (get_or linked stop.block false)) ⊎ ((m ≡ 9) × HasExtra at stops linked links) → ⊥
+              ⊎ ((m ≡ 8) × LacksLink top node stop.left_is_split (get_or linked stop.block false)) ⊎ ((m ≡ 9) × HasExtra at stops linked links) → ⊥
           less m lt (inl a) = right a.1
           less m lt (inr (inl a)) = linked_too a.1
           less m lt (inr (inr a)) = (let k = a.0 in omega (arith, k, lt))
@@ -200,7 +200,7 @@ module _ (at : ℕ → Node) (stops : List Stop) (linked : List Bool) (links : L
       pub least_none : (HasExtra at stops linked links → ⊥) → IsLeastNumber Wrong None
       least_none none = λ n w. by n w.is
         where
-          by : (n : ℕ) → ((n ≡ 7) × HasWrongBound at stops links) ⊎ ((n ≡ 8) × LacksLink top node stop.behind (get_or linked stop.block false)) ⊎ ((n ≡ 9) × HasExtra at stops linked links) → ⊥
+          by : (n : ℕ) → ((n ≡ 7) × HasWrongBound at stops links) ⊎ ((n ≡ 8) × LacksLink top node stop.left_is_split (get_or linked stop.block false)) ⊎ ((n ≡ 9) × HasExtra at stops linked links) → ⊥
           by n (inl a) = right a.1
           by n (inr (inl a)) = linked_too a.1
           by n (inr (inr a)) = none a.1

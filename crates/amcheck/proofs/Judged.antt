@@ -4,8 +4,8 @@ use Rattle.tree_acts.proofs.Sizes.{block_low}
 use Rattle.amcheck.proofs.Imports.{cases_lt, Format, Page, AreStored, stored_page, page_there, StandAtTheirBlocks}
 
 -- pages as the format demands stand at their blocks
-pub they_stand : (limits : Format) (pages : List Page) → AreStored limits 0 pages → StandAtTheirBlocks pages
-they_stand limits pages stored block page found = (let s = stored_page limits block pages page stored found in (s.storable.admitted, s.block_is))
+pub they_stand : (format : Format) (pages : List Page) → AreStored format 0 pages → StandAtTheirBlocks pages
+they_stand format pages stored block page found = (let s = stored_page format block pages page stored found in (s.storable.admitted, s.block_is))
 
 -- so there are no more of them than the format has blocks
 pub they_are_few : (pages : List Page) → StandAtTheirBlocks pages → length pages ≤ 65536

@@ -42,7 +42,7 @@ module _ {S : Type 0} (g : Ghosts S) (parents : Bool) (old new : S) (steps : Con
 
   -- what was read is judged
   pub read_judged : ((g.backing new).stopped ≡ true → (g.backing old).stopped ≡ true) → (pages : List Page) → PagesAreRead (g.state old) (g.backing new) pages → (keys : Bool)
-      → keys ≡ (g.state old).limits.unique → (judged : Result Report Damage) (result : Result Report CheckFault) → IfOk judged (λ report. result ≡ Ok report)
+      → keys ≡ (g.state old).format.unique → (judged : Result Report Damage) (result : Result Report CheckFault) → IfOk judged (λ report. result ≡ Ok report)
       → IfErr judged (λ d. result ≡ Err (Damaged d.number d.block)) → OnOk judged (IsSound parents keys pages) → IfOk judged (IsReport pages)
       → IfErr judged (λ d. IsFirstDamage parents keys pages d.number d.block) → OnErr judged (IsSoundTree keys pages → ⊥) → JudgesPages g parents result old new
   read_judged alive pages read keys keys_are judged result ok err sound report first damaged = record {
@@ -54,7 +54,7 @@ module _ {S : Type 0} (g : Ghosts S) (parents : Bool) (old new : S) (steps : Con
     alive = λ answered. alive;
     report = λ honest. subst (λ (ps : List Page). IfOk result (IsReport ps)) (read.same honest) (told judged result ok err report);
     answer = λ honest.
-        subst (λ (ps : List Page). IsAnswer parents (g.state old).limits.unique ps result) (read.same honest)
+        subst (λ (ps : List Page). IsAnswer parents (g.state old).format.unique ps result) (read.same honest)
         (subst (λ (k : Bool). IsAnswer parents k pages result) keys_are (answer_told parents keys pages judged result sound report first ok err));
     fault = fault_told (g.state old) pages keys keys_are read.stored (g.backing old) (g.backing new) read.same judged result ok err damaged;
     unread = λ same. absurd (never_refused judged result NoMemory ok err same);

@@ -104,8 +104,8 @@ module _ (pages whole : List Page) (sketches : List Sketch) (kept : HoldSketches
   links_are = keeps.links ∙ ap (λ (n : Node). n.links) (sym node_is)
 
 -- and after them there is none
-pub none_behind : (pages whole : List Page) (sketches : List Sketch) (block : ℕ) → HoldSketches pages whole sketches → length sketches ≤ block → nodes_of pages block ≡ no_node
-none_behind pages whole sketches block kept le = ap node_from (slice_get_past pages block (omega (arith, le, kept.count)))
+pub none_after : (pages whole : List Page) (sketches : List Sketch) (block : ℕ) → HoldSketches pages whole sketches → length sketches ≤ block → nodes_of pages block ≡ no_node
+none_after pages whole sketches block kept le = ap node_from (slice_get_past pages block (omega (arith, le, kept.count)))
 
 pub inside_of : (whole : List Page) (o : Option ℕ) → IfSome o (λ place. place < length whole) → (place : ℕ) → o ≡ Some place → place < length whole
 inside_of whole None inside place is = absurd (no_link is)

@@ -35,37 +35,37 @@ abbrev ReportOrFault : Type 0
 ReportOrFault = Result Report CheckFault
 
 -- what is told of the judgement of pages that were read, in the words of the store
-module _ (st : State) (pages : List Page) (keys : Bool) (keys_are : keys ≡ st.limits.unique) (stored : AreStored st.limits 0 pages) where
-  levels_pages : (HasLevels pages) → (keys ≡ true → HasUniqueLevels pages) → HasLevelsFor st.limits pages
+module _ (st : State) (pages : List Page) (keys : Bool) (keys_are : keys ≡ st.format.unique) (stored : AreStored st.format 0 pages) where
+  levels_pages : (HasLevels pages) → (keys ≡ true → HasUniqueLevels pages) → HasLevelsFor st.format pages
   levels_pages levels unique = (levels, λ seen. unique (keys_are ∙ seen))
 
-  tree_pages : IsTree pages → (keys ≡ true → AreUnique pages) → IsTreeFor st.limits pages
-  tree_pages tree unique = (tree, λ seen. (keyed_shows st.limits pages tree stored).0 (unique (keys_are ∙ seen)))
+  tree_pages : IsTree pages → (keys ≡ true → AreUnique pages) → IsTreeFor st.format pages
+  tree_pages tree unique = (tree, λ seen. (keyed_shows st.format pages tree stored).0 (unique (keys_are ∙ seen)))
 
-  sound_pages : IsTreeFor st.limits pages → IsSoundTree keys pages
-  sound_pages tree = record { tree = tree.0; unique = λ seen. (keyed_shows st.limits pages tree.0 stored).1 (tree.1 (sym keys_are ∙ seen)) }
+  sound_pages : IsTreeFor st.format pages → IsSoundTree keys pages
+  sound_pages tree = record { tree = tree.0; unique = λ seen. (keyed_shows st.format pages tree.0 stored).1 (tree.1 (sym keys_are ∙ seen)) }
 
   module _ (same : pages ≡ st.pages) (judged : Result Report Damage) (result : ReportOrFault) (ok : IfOk judged (λ report. result ≡ Ok report))
       (err : IfErr judged (λ d. result ≡ Err (Damaged d.number d.block))) where
-    pub levels_told : OnOk judged (HasLevels pages) → (keys ≡ true → OnOk judged (HasUniqueLevels pages)) → OnOk result (HasLevelsFor st.limits st.pages)
-    levels_told levels unique = subst (λ (ps : List Page). OnOk result (HasLevelsFor st.limits ps)) same (by judged ok err levels unique)
+    pub levels_told : OnOk judged (HasLevels pages) → (keys ≡ true → OnOk judged (HasUniqueLevels pages)) → OnOk result (HasLevelsFor st.format st.pages)
+    levels_told levels unique = subst (λ (ps : List Page). OnOk result (HasLevelsFor st.format ps)) same (by judged ok err levels unique)
       where
         by : (judged : Result Report Damage) → IfOk judged (λ report. result ≡ Ok report) → IfErr judged (λ d. result ≡ Err (Damaged d.number d.block)) → OnOk judged (HasLevels pages)
-            → (keys ≡ true → OnOk judged (HasUniqueLevels pages)) → OnOk result (HasLevelsFor st.limits pages)
-        by (Ok report) ok err levels unique = subst (λ (r : ReportOrFault). OnOk r (HasLevelsFor st.limits pages)) (sym ok) (levels_pages levels unique)
-        by (Err d) ok err levels unique = subst (λ (r : ReportOrFault). OnOk r (HasLevelsFor st.limits pages)) (sym err) tt
+            → (keys ≡ true → OnOk judged (HasUniqueLevels pages)) → OnOk result (HasLevelsFor st.format pages)
+        by (Ok report) ok err levels unique = subst (λ (r : ReportOrFault). OnOk r (HasLevelsFor st.format pages)) (sym ok) (levels_pages levels unique)
+        by (Err d) ok err levels unique = subst (λ (r : ReportOrFault). OnOk r (HasLevelsFor st.format pages)) (sym err) tt
 
-    pub tree_told : OnOk judged (IsTree pages) → (keys ≡ true → OnOk judged (AreUnique pages)) → OnOk result (IsTreeFor st.limits st.pages)
-    tree_told tree unique = subst (λ (ps : List Page). OnOk result (IsTreeFor st.limits ps)) same (by judged ok err tree unique)
+    pub tree_told : OnOk judged (IsTree pages) → (keys ≡ true → OnOk judged (AreUnique pages)) → OnOk result (IsTreeFor st.format st.pages)
+    tree_told tree unique = subst (λ (ps : List Page). OnOk result (IsTreeFor st.format ps)) same (by judged ok err tree unique)
       where
         by : (judged : Result Report Damage) → IfOk judged (λ report. result ≡ Ok report) → IfErr judged (λ d. result ≡ Err (Damaged d.number d.block)) → OnOk judged (IsTree pages)
-            → (keys ≡ true → OnOk judged (AreUnique pages)) → OnOk result (IsTreeFor st.limits pages)
-        by (Ok report) ok err tree unique = subst (λ (r : ReportOrFault). OnOk r (IsTreeFor st.limits pages)) (sym ok) (tree_pages tree unique)
-        by (Err d) ok err tree unique = subst (λ (r : ReportOrFault). OnOk r (IsTreeFor st.limits pages)) (sym err) tt
+            → (keys ≡ true → OnOk judged (AreUnique pages)) → OnOk result (IsTreeFor st.format pages)
+        by (Ok report) ok err tree unique = subst (λ (r : ReportOrFault). OnOk r (IsTreeFor st.format pages)) (sym ok) (tree_pages tree unique)
+        by (Err d) ok err tree unique = subst (λ (r : ReportOrFault). OnOk r (IsTreeFor st.format pages)) (sym err) tt
 
   pub fault_told : (was now : Backing) → (now.honest ≡ true → pages ≡ st.pages) → (judged : Result Report Damage) (result : ReportOrFault) → IfOk judged (λ report. result ≡ Ok report)
-      → IfErr judged (λ d. result ≡ Err (Damaged d.number d.block)) → OnErr judged (IsSoundTree keys pages → ⊥) → IfErr result (IsCheckFault st was now (IsTreeFor st.limits st.pages))
-  fault_told was now same (Ok report) result ok err damaged = subst (λ (r : ReportOrFault). IfErr r (IsCheckFault st was now (IsTreeFor st.limits st.pages))) (sym ok) tt
+      → IfErr judged (λ d. result ≡ Err (Damaged d.number d.block)) → OnErr judged (IsSoundTree keys pages → ⊥) → IfErr result (IsCheckFault st was now (IsTreeFor st.format st.pages))
+  fault_told was now same (Ok report) result ok err damaged = subst (λ (r : ReportOrFault). IfErr r (IsCheckFault st was now (IsTreeFor st.format st.pages))) (sym ok) tt
   fault_told was now same (Err d) result ok err damaged =
-      subst (λ (r : ReportOrFault). IfErr r (IsCheckFault st was now (IsTreeFor st.limits st.pages))) (sym err)
-      (λ honest tree. damaged (sound_pages (subst (IsTreeFor st.limits) (sym (same honest)) tree)))
+      subst (λ (r : ReportOrFault). IfErr r (IsCheckFault st was now (IsTreeFor st.format st.pages))) (sym err)
+      (λ honest tree. damaged (sound_pages (subst (IsTreeFor st.format) (sym (same honest)) tree)))

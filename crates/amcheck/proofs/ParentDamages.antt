@@ -6,6 +6,7 @@ use Rattle.amcheck.proofs.Imports.{IsOnLevel, IsOnChain, IsUnlinked, IsSecond, I
 use Rattle.amcheck.proofs.Imports.{no_link, bool_so, on_level_so, AreAllStops, IsAt, HaveBlocksOnce, IsStopOf, HasNoStop, IsOff, AreBelow, HasWrongBound, IsSkipped, LacksLink, false≢true, same_Some}
 use Rattle.amcheck.proofs.Imports.{IsSkippedStop, LeadsBefore, IsExtra, HasExtra, DownlinksAreNoted, IsWrongAmong, IsNotMet, AreChildrenBelow, IsClearAt, IsFirstChild, IsFirstOfPage, IsFirstAt}
 use Rattle.amcheck.proofs.Imports.{AreMarked, high_at, context_at, stop_blocks, IsStop, IsLeastNumber, StopsAreInUse, Stop}
+use Rattle.amcheck.proofs.Imports.{met_before, off_level}
 use Rattle.amcheck.proofs.AllStops.{HasItsStop, Indexed, indexed, stop_moved}
 use Rattle.amcheck.proofs.ItemsNoted.{item_inside}
 use Rattle.amcheck.proofs.Walked.{stop_inside, stop_of}
@@ -80,7 +81,7 @@ module _ (pages : List Page) (stops : List Stop) (all : AreAllStops (index_of pa
   at_here k s there = record { stop = s; there = there; is = idx.is k s there }
 
   on_level : (h : Here ix) → IsOnLevel ix h.depth h.block
-  on_level h = on_level_so ix h.depth h.block (λ fails. sound (on_chain h) 1 (inl (refl, fails)))
+  on_level h = on_level_so ix h.depth h.block (λ fails. sound (on_chain h) 1 (off_level refl fails))
 
   -- a page is at one place
   same_depth : (h g : Here ix) → h.block ≡ g.block → h.depth ≡ g.depth
@@ -91,14 +92,11 @@ module _ (pages : List Page) (stops : List Stop) (all : AreAllStops (index_of pa
       omega (arith, l, m, one)
 
   never_twice : (h g : Here ix) → h.block ≡ g.block → h.place < g.place → ⊥
-  never_twice h g same lt = sound (on_chain g) 3 (inr (inr (inl (
-    refl,
-    record {
-      earlier = h.place;
-      before = lt;
-      same = subst (λ (d : ℕ). (place_at ix d h.place).block ≡ Some g.block) (same_depth h g same) (h.is ∙ ap Some same);
-    },
-  ))))
+  never_twice h g same lt = sound (on_chain g) 3 (met_before refl (record {
+    earlier = h.place;
+    before = lt;
+    same = subst (λ (d : ℕ). (place_at ix d h.place).block ≡ Some g.block) (same_depth h g same) (h.is ∙ ap Some same);
+  }))
 
   same_place : (h g : Here ix) → h.block ≡ g.block → h.place ≡ g.place
   same_place h g same = elim (cases_lt h.place g.place) [
@@ -282,20 +280,20 @@ module _ (pages : List Page) (stops : List Stop) (all : AreAllStops (index_of pa
       };
     }
 
-    unlinked_skipped : (h : Here ix) → IsAt stops k h → IsUnlinked h → IsSkipped (at s.block) s.behind
+    unlinked_skipped : (h : Here ix) → IsAt stops k h → IsUnlinked h → IsSkipped (at s.block) s.left_is_split
     unlinked_skipped h a (inl dead) = record { is = inl (ap (λ (b : ℕ). (at b).state) (sym (block_is h a)) ∙ dead) }
-    unlinked_skipped h a (inr behind) = record { is = inr (ap (λ (t : LeftContext). t.behind) (sym (context_is h a)) ∙ behind) }
+    unlinked_skipped h a (inr left_is_split) = record { is = inr (ap (λ (t : LeftContext). t.left_is_split) (sym (context_is h a)) ∙ left_is_split) }
 
-    skipped_unlinked : (h : Here ix) → IsAt stops k h → IsSkipped (at s.block) s.behind → IsUnlinked h
+    skipped_unlinked : (h : Here ix) → IsAt stops k h → IsSkipped (at s.block) s.left_is_split → IsUnlinked h
     skipped_unlinked h a w = by w.is
       where
-        by : ((at s.block).state ≡ HalfDead) ⊎ (s.behind ≡ true) → IsUnlinked h
+        by : ((at s.block).state ≡ HalfDead) ⊎ (s.left_is_split ≡ true) → IsUnlinked h
         by (inl dead) = inl (ap (λ (b : ℕ). (at b).state) (block_is h a) ∙ dead)
-        by (inr behind) = inr (ap (λ (t : LeftContext). t.behind) (context_is h a) ∙ behind)
+        by (inr left_is_split) = inr (ap (λ (t : LeftContext). t.left_is_split) (context_is h a) ∙ left_is_split)
 
     module _ (linked : List Bool) (marks : AreMarked ix stops k linked) (clear : (j : ℕ) → j < k → IsClearAt ix stops j) where
       -- a page that lacks its downlink
-      link_lacks : (h : Here ix) → IsAt stops k h → LacksLink ix.top (at s.block) s.behind (get_or linked s.block false)
+      link_lacks : (h : Here ix) → IsAt stops k h → LacksLink ix.top (at s.block) s.left_is_split (get_or linked s.block false)
           → (0 < h.depth) × (IsUnlinked h → ⊥) × ((above : Here ix) (i : Item above) → above.depth < h.depth → i.link.child ≢ h.block)
       link_lacks h a w = (
         (let l = level_at h a in let b = w.below in omega (arith, l, b)),
@@ -307,7 +305,7 @@ module _ (pages : List Page) (stops : List Stop) (all : AreAllStops (index_of pa
       )
 
       lacks_link : (h : Here ix) → IsAt stops k h → 0 < h.depth → (IsUnlinked h → ⊥) → ((above : Here ix) (i : Item above) → above.depth < h.depth → i.link.child ≢ h.block)
-          → LacksLink ix.top (at s.block) s.behind (get_or linked s.block false)
+          → LacksLink ix.top (at s.block) s.left_is_split (get_or linked s.block false)
       lacks_link h a deep may none = record {
         below = (let l = level_at h a in omega (arith, l, deep));
         may = λ w. may (skipped_unlinked h a w);
@@ -334,7 +332,7 @@ module _ (pages : List Page) (stops : List Stop) (all : AreAllStops (index_of pa
           told (inr (inl sk)) =
               let child = here_at sk.is.place sk.stop sk.is.there in
               let context_there : context child ≡ context_at at sk.stop = ap (λ (p : Place). p.context) (idx.is sk.is.place sk.stop sk.is.there) in
-              inr (inl (child, sym sk.is.is, elim sk.skipped.is [ inl dead ↦ inl dead | inr behind ↦ inr (ap (λ (t : LeftContext). t.behind) context_there ∙ behind) ]))
+              inr (inl (child, sym sk.is.is, elim sk.skipped.is [ inl dead ↦ inl dead | inr left_is_split ↦ inr (ap (λ (t : LeftContext). t.left_is_split) context_there ∙ left_is_split) ]))
           told (inr (inr marked)) =
               let led = marks.from w.link.child marked in
               inr (inr (seconds (led.page, earlier led.page h led.index k led.at a led.before, led.item, led.leads)))
@@ -364,9 +362,9 @@ module _ (pages : List Page) (stops : List Stop) (all : AreAllStops (index_of pa
           by (inl off) = inl (record { is = inl (off_no_stop i.link.child off) })
           by (inr (inl u)) = inl (record { is = inr (inl (record { stop = (index u.0).stop; is = stop_for u.0 i.link.child u.1; skipped = skipped u.0 u.2 })) })
             where
-              skipped : (child : Here ix) → IsUnlinked child → IsSkipped (at (index child).stop.block) (index child).stop.behind
+              skipped : (child : Here ix) → IsUnlinked child → IsSkipped (at (index child).stop.block) (index child).stop.left_is_split
               skipped child (inl dead) = record { is = inl (ap (λ (b : ℕ). (at b).state) (sym (block_at child (index child).index (at_of child))) ∙ dead) }
-              skipped child (inr behind) = record { is = inr (ap (λ (t : LeftContext). t.behind) (sym (context_for child)) ∙ behind) }
+              skipped child (inr left_is_split) = record { is = inr (ap (λ (t : LeftContext). t.left_is_split) (sym (context_for child)) ∙ left_is_split) }
           by (inr (inr q)) = second q.page q.first q.earlier q.same
 
       -- what is wrong at the stop is a damage there, and the other way round
@@ -376,7 +374,7 @@ module _ (pages : List Page) (stops : List Stop) (all : AreAllStops (index_of pa
       damage_is : (h : Here ix) (n : ℕ) → IsAt stops k h → Wrong n → IsOfParents h n
       damage_is h n a w = by w.is
         where
-          by : ((n ≡ 7) × HasWrongBound at stops links) ⊎ ((n ≡ 8) × LacksLink ix.top (at s.block) s.behind (get_or linked s.block false))
+          by : ((n ≡ 7) × HasWrongBound at stops links) ⊎ ((n ≡ 8) × LacksLink ix.top (at s.block) s.left_is_split (get_or linked s.block false))
               ⊎ ((n ≡ 9) × HasExtra at stops linked links) → IsOfParents h n
           by (inl x) = (let r = bound_wrong h a x.1 in inl (x.0, r.0, r.1, r.2, r.3))
           by (inr (inl x)) = (let r = link_lacks h a x.1 in inr (inl (x.0, r.0, r.1, r.2)))

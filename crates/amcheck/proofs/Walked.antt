@@ -1,7 +1,7 @@
 -- A walk along a chain, as far as it has come.
 use Rattle.std.proofs.Common.{◌≡◌, ◌⊎◌, ℕ, zero, suc, ◌<◌, inl, inr, Some, None, List, [], ◌∷◌, ◌++◌, length, length-append, append_assoc, slice_get, refl, sym, ap, subst, ◌∙◌, arith}
 use Rattle.damages.proofs.Places.{one_place}
-use Rattle.amcheck.specs.declared.walks.End.TheVariants as ends
+use Rattle.amcheck.specs.declared.walks.WalkEnd.TheVariants as ends
 use Rattle.amcheck.proofs.Imports.{Page, nodes_of, past, IsIn, AreDistinct, in_append_cases, apart_back, Index, index_of, Place, next_place, place_at, IsOnLevel, no_link, IsMet, context_at, same_Some}
 use Rattle.amcheck.proofs.Imports.{stop_blocks, IsStop, AreStops, IsChainEnd, IsEarlier, Met, Stop, few_blocks}
 

@@ -35,20 +35,20 @@ pub record HasWrongBound (at : ℕ → Node) (stops : List Stop) (links : List D
   pub wrong : HasOtherLow at stops link
 
 -- a page without a downlink: half-dead, or right after a page with an incomplete split
-pub record IsSkipped (node : Node) (behind : Bool) : Type 0 where
-  pub is : (node.state ≡ HalfDead) ⊎ (behind ≡ true)
+pub record IsSkipped (node : Node) (left_is_split : Bool) : Type 0 where
+  pub is : (node.state ≡ HalfDead) ⊎ (left_is_split ≡ true)
 
 -- the page may have a downlink, and none from an earlier page leads to it
-pub record LacksLink (top : ℕ) (node : Node) (behind linked : Bool) : Type 0 where
+pub record LacksLink (top : ℕ) (node : Node) (left_is_split linked : Bool) : Type 0 where
   pub below : node.level < top
-  pub may : IsSkipped node behind → ⊥
+  pub may : IsSkipped node left_is_split → ⊥
   pub none : linked ≡ false
 
 -- the block is that of a page on a chain that is to have no downlink
 pub record IsSkippedStop (at : ℕ → Node) (stops : List Stop) (b : ℕ) : Type 0 where
   pub stop : Stop
   pub is : IsStopOf stops b stop
-  pub skipped : IsSkipped (at stop.block) stop.behind
+  pub skipped : IsSkipped (at stop.block) stop.left_is_split
 
 -- one before this item leads to the block
 pub record LeadsBefore (links : List Downlink) (item b : ℕ) : Type 0 where
@@ -80,5 +80,5 @@ pub record DownlinksAreNoted (links : List Downlink) (count : ℕ) (before after
 pub record IsWrongAmong (at : ℕ → Node) (stops : List Stop) (linked : List Bool) (links : List Downlink) (top : ℕ)
     (node : Node) (stop : Stop) (number : ℕ) : Type 0 where
   pub is : ((number ≡ 7) × HasWrongBound at stops links)
-      ⊎ ((number ≡ 8) × LacksLink top node stop.behind (get_or linked stop.block false))
+      ⊎ ((number ≡ 8) × LacksLink top node stop.left_is_split (get_or linked stop.block false))
       ⊎ ((number ≡ 9) × HasExtra at stops linked links)

@@ -29,7 +29,7 @@ pub record JudgesPages {S : Type 0} (g : Ghosts S) (parents : Bool) (result : Re
   pub report : (g.backing new).honest ≡ true → IfOk result (IsReport (g.state old).pages)
   -- It answers the first damage that there is, if there is one.
   pub answer : (g.backing new).honest ≡ true
-      → IsAnswer parents (g.state old).limits.unique (g.state old).pages result
+      → IsAnswer parents (g.state old).format.unique (g.state old).pages result
   pub fault : IfErr result (IsCheckFault (g.state old) (g.backing old) (g.backing new)
-      (IsTreeFor (g.state old).limits (g.state old).pages))
+      (IsTreeFor (g.state old).format (g.state old).pages))
   pub unread : result ≡ Err (Refused NoMemory) → new ≡ old

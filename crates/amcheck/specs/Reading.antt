@@ -6,10 +6,10 @@ use Rattle.page_action.specs.Frames.{Memory, is_block_among, TakesFrames}
 use Rattle.page_action.specs.States.{State, Backing}
 use Rattle.page_action.specs.Stored.{AreStored}
 use Rattle.amcheck.specs.Marks.{IsMet}
-use Rattle.amcheck.specs.declared.reading.Room.{Room}
+use Rattle.amcheck.specs.declared.reading.CheckRoom.{CheckRoom}
 
 -- there is room to check `used` pages, and no block was seen or met
-pub record RoomIsReady (room : Room) (used : ℕ) : Type 0 where
+pub record RoomIsReady (room : CheckRoom) (used : ℕ) : Type 0 where
   pub met : IsMet room.walks.met used
   pub none : room.walks.met.blocks.items ≡ []
   pub seen : room.walks.seen.items ≡ replicate used false
@@ -23,7 +23,7 @@ pub record RoomIsReady (room : Room) (used : ℕ) : Type 0 where
 -- model those of the store
 pub record PagesAreRead (st : State) (backing : Backing) (pages : List Page) : Type 0 where
   pub count : length pages ≡ length st.pages
-  pub stored : AreStored st.limits 0 pages
+  pub stored : AreStored st.format 0 pages
   pub same : backing.honest ≡ true → pages ≡ st.pages
 
 -- the blocks below this number, in order

@@ -1,6 +1,7 @@
 -- A chain as it was walked along, and what is judged of each of its pages.
-use Rattle.std.specs.Prelude.{◌≡◌, ◌≢◌, ◌⊎◌, ℕ, ◌<◌, Bool, true, Option, Some, None, List, [], ◌∷◌, slice_get}
+use Rattle.std.specs.Prelude.{◌≡◌, ◌≢◌, ℕ, ◌<◌, Bool, true, Option, Some, None, List, [], ◌∷◌, slice_get}
 use Rattle.index_model.specs.declared.bound.Bound.{Bound}
+use Rattle.page_codec.specs.declared.page.PageState.{PageState}
 use Rattle.page_codec.specs.declared.page.PageState.TheVariants.{Live, HalfDead, Deleted}
 use Rattle.tree_shape.specs.KeyPages.{IsUniqueNode}
 use Rattle.tree_shape.specs.Nodes.{Node}
@@ -15,7 +16,7 @@ high_at at (Some block) = (at block).high
 
 -- what the walk knew before this stop
 abbrev pub context_at : (ℕ → Node) → Stop → LeftContext
-context_at at s = record { low = high_at at s.low_at; left = s.left; behind = s.behind }
+context_at at s = record { low = high_at at s.low_at; left = s.left; left_is_split = s.left_is_split }
 
 -- the blocks of these stops
 abbrev pub stop_blocks : List Stop → List ℕ
@@ -47,16 +48,22 @@ pub record HasWrongItem (low : Option Bound) (node : Node) : Type 0 where
   pub is : HasNotBeyond low node
 
 -- Number by number, what is judged of a page of the level that wasn't met before: all but 1 and 3, which the
--- walk finds. The last is judged if keys are seen.
+-- walk finds. It is judged by its left link, its state and its high key, by whether an item is wrong, and by
+-- whether its keys are. The last is judged if keys are seen.
+pub data IsWrongBy (keys : Bool) (left : Option ℕ) (state : PageState) (high : Option Bound) (WrongItem WrongKeys : Type 0)
+    (root : Option ℕ) (s : LeftContext) (block number : ℕ) : Type 0 where
+  linked_wrongly : number ≡ 2 → left ≢ s.left → IsWrongBy keys left state high WrongItem WrongKeys root s block number
+  still_there : number ≡ 4 → state ≡ Deleted → IsWrongBy keys left state high WrongItem WrongKeys root s block number
+  too_low : number ≡ 5 → state ≡ Live → (Rises s.low high → ⊥) → IsWrongBy keys left state high WrongItem WrongKeys root s block number
+  wrong_item : number ≡ 6 → WrongItem → IsWrongBy keys left state high WrongItem WrongKeys root s block number
+  too_much : number ≡ 10 → IsTooMuch root s block → IsWrongBy keys left state high WrongItem WrongKeys root s block number
+  half_dead_after : number ≡ 12 → state ≡ HalfDead → s.left_is_split ≡ true → IsWrongBy keys left state high WrongItem WrongKeys root s block number
+  wrong_keys : number ≡ 13 → keys ≡ true → WrongKeys → IsWrongBy keys left state high WrongItem WrongKeys root s block number
+
+-- ... of this page
 abbrev pub IsWrong : Bool → Node → Option ℕ → LeftContext → ℕ → ℕ → Type 0
 IsWrong keys node root s block number =
-    ((number ≡ 2) × (node.left ≢ s.left))
-    ⊎ ((number ≡ 4) × (node.state ≡ Deleted))
-    ⊎ ((number ≡ 5) × (node.state ≡ Live) × (Rises s.low node.high → ⊥))
-    ⊎ ((number ≡ 6) × HasWrongItem s.low node)
-    ⊎ ((number ≡ 10) × IsTooMuch root s block)
-    ⊎ ((number ≡ 12) × (node.state ≡ HalfDead) × (s.behind ≡ true))
-    ⊎ ((number ≡ 13) × (keys ≡ true) × (IsUniqueNode node → ⊥))
+    IsWrongBy keys node.left node.state node.high (HasWrongItem s.low node) (IsUniqueNode node → ⊥) root s block number
 
 -- the least number of which this is so, if there is one
 abbrev pub IsLeastNumber : (ℕ → Type 0) → Option ℕ → Type 0

@@ -12,7 +12,7 @@ ghost use Rattle.amcheck.specs.Stops.{AreStops, IsRootAt, IsLeastNumber, IsWrong
 use crate::pages::Pages;
 use crate::report::Damage;
 use crate::stops::{Stop, find_number, low};
-use crate::walks::End;
+use crate::walks::WalkEnd;
 use rayon::prelude::*;
 use std::thread::Threads;
 
@@ -106,7 +106,7 @@ fn damage_at_end(
     root: Option<u32>,
     depth: u8,
     stops: &[Stop],
-    end: End,
+    end: WalkEnd,
 ) -> Option<Damage>
     requires deep { depth ≤ (index_of pages.now).top }
     requires root { IsRootAt (index_of pages.now) depth root }
@@ -118,9 +118,9 @@ fn damage_at_end(
         (λ d. IsFirstOfChain (index_of pages.now) keys depth d.number d.block) }
 {
     match end {
-        End::Whole => None,
-        End::Off(block) => Some(Damage { number: 1, block }),
-        End::Met(stop) => Some(Damage {
+        WalkEnd::Whole => None,
+        WalkEnd::Off(block) => Some(Damage { number: 1, block }),
+        WalkEnd::Met(stop) => Some(Damage {
             number: met_number(pages, &stop),
             block: stop.block,
         }),
@@ -136,7 +136,7 @@ pub(crate) fn first_in_chain<F: Fn(&Pages, bool, Option<u32>, &[Stop]) -> Option
     root: Option<u32>,
     depth: u8,
     stops: &[Stop],
-    end: End,
+    end: WalkEnd,
 ) -> Option<Damage>
     requires may { MaySearch (F.pre find.now) }
     requires finds { FindsFirst (F.post find.now) }

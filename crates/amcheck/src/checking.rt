@@ -9,7 +9,7 @@ ghost use Rattle.amcheck.specs.Sound.{HasLevelsFor};
 use crate::judging::{judge, judge_chains};
 use crate::page_room::PageRoom;
 use crate::pages::Pages;
-use crate::reading::{Room, read_pages};
+use crate::reading::{CheckRoom, read_pages};
 use crate::report::{CheckFault, Damage, Report};
 use crate::stops::Stop;
 use index_model::Progress;
@@ -41,11 +41,11 @@ pub(crate) fn check_by<
     requires finds { FindsFirst (F.post find) }
     ensures judged { JudgesPages S.PageStore false result store.old store.new }
     ensures levels { (S.backing store.new).honest ≡ true
-        → OnOk result (HasLevelsFor (S.state store.old).limits (S.state store.old).pages) }
+        → OnOk result (HasLevelsFor (S.state store.old).format (S.state store.old).pages) }
 {
     let used = store.used();
     let keys = store.format().unique;
-    let mut room = match Room::new(alloc, used) {
+    let mut room = match CheckRoom::new(alloc, used) {
         Ok(room) => room,
         Err(fault) => return Err(CheckFault::Refused(fault)),
     };
@@ -71,11 +71,11 @@ pub(crate) fn check_parents_by<
     requires finds { FindsFirst (F.post find) }
     ensures judged { JudgesPages S.PageStore true result store.old store.new }
     ensures tree { (S.backing store.new).honest ≡ true
-        → OnOk result (IsTreeFor (S.state store.old).limits (S.state store.old).pages) }
+        → OnOk result (IsTreeFor (S.state store.old).format (S.state store.old).pages) }
 {
     let used = store.used();
     let keys = store.format().unique;
-    let mut room = match Room::new(alloc, used) {
+    let mut room = match CheckRoom::new(alloc, used) {
         Ok(room) => room,
         Err(fault) => return Err(CheckFault::Refused(fault)),
     };

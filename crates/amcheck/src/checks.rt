@@ -42,7 +42,7 @@ pub fn check<R: Threads + Sync, S: PageStore, P: Progress>(
 ) -> Result<Report, CheckFault>
     ensures judged { JudgesPages S.PageStore false result store.old store.new }
     ensures levels { (S.backing store.new).honest ≡ true
-        → OnOk result (HasLevelsFor (S.state store.old).limits (S.state store.old).pages) }
+        → OnOk result (HasLevelsFor (S.state store.old).format (S.state store.old).pages) }
 {
     check_by(
         |pages: &Pages, keys: bool, root: Option<u32>, stops: &[Stop]| -> Option<usize>
@@ -63,7 +63,7 @@ pub fn check_one<S: PageStore, P: Progress>(
 ) -> Result<Report, CheckFault>
     ensures judged { JudgesPages S.PageStore false result store.old store.new }
     ensures levels { (S.backing store.new).honest ≡ true
-        → OnOk result (HasLevelsFor (S.state store.old).limits (S.state store.old).pages) }
+        → OnOk result (HasLevelsFor (S.state store.old).format (S.state store.old).pages) }
 {
     check_by(
         |pages: &Pages, keys: bool, root: Option<u32>, stops: &[Stop]| -> Option<usize>
@@ -91,7 +91,7 @@ pub fn check_parents<R: Threads + Sync, S: PageStore, P: Progress>(
 ) -> Result<Report, CheckFault>
     ensures judged { JudgesPages S.PageStore true result store.old store.new }
     ensures tree { (S.backing store.new).honest ≡ true
-        → OnOk result (IsTreeFor (S.state store.old).limits (S.state store.old).pages) }
+        → OnOk result (IsTreeFor (S.state store.old).format (S.state store.old).pages) }
 {
     check_parents_by(
         |pages: &Pages, keys: bool, root: Option<u32>, stops: &[Stop]| -> Option<usize>
@@ -112,7 +112,7 @@ pub fn check_parents_one<S: PageStore, P: Progress>(
 ) -> Result<Report, CheckFault>
     ensures judged { JudgesPages S.PageStore true result store.old store.new }
     ensures tree { (S.backing store.new).honest ≡ true
-        → OnOk result (IsTreeFor (S.state store.old).limits (S.state store.old).pages) }
+        → OnOk result (IsTreeFor (S.state store.old).format (S.state store.old).pages) }
 {
     check_parents_by(
         |pages: &Pages, keys: bool, root: Option<u32>, stops: &[Stop]| -> Option<usize>

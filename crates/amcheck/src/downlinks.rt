@@ -110,25 +110,25 @@ fn has_wrong_bound(
 
 /// Whether the page of a block in use is to have no downlink: it is half-dead, or right after a page with an
 /// incomplete split.
-fn is_skipped(pages: &Pages, block: u32, behind: bool) -> bool
+fn is_skipped(pages: &Pages, block: u32, left_is_split: bool) -> bool
     requires { block < length pages.now }
-    ensures { IsTrue result ↔ IsSkipped (nodes_of pages.now block) behind }
+    ensures { IsTrue result ↔ IsSkipped (nodes_of pages.now block) left_is_split }
 {
     match pages.sketch(block).state {
         PageState::HalfDead => true,
-        PageState::Live | PageState::Deleted => behind,
+        PageState::Live | PageState::Deleted => left_is_split,
     }
 }
 
 /// Whether a page below the root's level may have a downlink, and none leads to it.
-fn lacks_link(pages: &Pages, block: u32, top: u8, behind: bool, is_linked: bool) -> bool
+fn lacks_link(pages: &Pages, block: u32, top: u8, left_is_split: bool, is_linked: bool) -> bool
     requires { block < length pages.now }
-    ensures { IsTrue result ↔ LacksLink top (nodes_of pages.now block) behind is_linked }
+    ensures { IsTrue result ↔ LacksLink top (nodes_of pages.now block) left_is_split is_linked }
 {
     if pages.sketch(block).level >= top {
         return false;
     }
-    if is_skipped(pages, block, behind) {
+    if is_skipped(pages, block, left_is_split) {
         return false;
     }
     !is_linked
@@ -153,7 +153,7 @@ fn is_extra(
         None => return true,
         Some(stop) => stop,
     };
-    if is_skipped(pages, child, stop.behind) {
+    if is_skipped(pages, child, stop.left_is_split) {
         return true;
     }
     linked[child as usize]
@@ -223,7 +223,7 @@ pub(crate) fn find_parent_number(
         return Some(7);
     }
     let is_linked = linked[stop.block as usize];
-    if lacks_link(pages, stop.block, top, stop.behind, is_linked) {
+    if lacks_link(pages, stop.block, top, stop.left_is_split, is_linked) {
         return Some(8);
     }
     if has_extra(pages, stops, places, linked, low, links) {

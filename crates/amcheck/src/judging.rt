@@ -21,7 +21,7 @@ use crate::counts::count_up;
 use crate::marks::Met;
 use crate::pages::Pages;
 use crate::parent_damages::find_parent_damage;
-use crate::reading::Room;
+use crate::reading::CheckRoom;
 use crate::report::{Damage, Report};
 use crate::stops::Stop;
 use crate::strays::find_stray;
@@ -89,7 +89,7 @@ pub(crate) fn judge_chains<F: Fn(&Pages, bool, Option<u32>, &[Stop]) -> Option<u
     find: &F,
     pages: &Pages,
     keys: bool,
-    room: &mut Room,
+    room: &mut CheckRoom,
 ) -> Result<Report, Damage>
     requires may { MaySearch (F.pre find.now) }
     requires finds { FindsFirst (F.post find.now) }
@@ -122,7 +122,7 @@ pub(crate) fn judge<F: Fn(&Pages, bool, Option<u32>, &[Stop]) -> Option<usize>>(
     find: &F,
     pages: &Pages,
     keys: bool,
-    room: &mut Room,
+    room: &mut CheckRoom,
 ) -> Result<Report, Damage>
     requires may { MaySearch (F.pre find.now) }
     requires finds { FindsFirst (F.post find.now) }

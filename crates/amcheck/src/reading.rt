@@ -28,7 +28,7 @@ pub(crate) struct WalkRoom {
 
 /// All that a check takes of memory beside the room for the pages.
 #[derive(Drop)]
-pub(crate) struct Room {
+pub(crate) struct CheckRoom {
     pub(crate) walks: WalkRoom,
     /// The places of the chains of all levels.
     pub(crate) chains: Vec<Stop>,
@@ -38,9 +38,9 @@ pub(crate) struct Room {
     pub(crate) linked: Vec<bool>,
 }
 
-impl Room {
+impl CheckRoom {
     /// The room to check `used` pages. Refused with `NoMemory` (1).
-    pub(crate) fn new(alloc: Global, used: u32) -> Result<Room, Fault>
+    pub(crate) fn new(alloc: Global, used: u32) -> Result<CheckRoom, Fault>
         ensures made { IfOk result (λ room. RoomIsReady room used) }
         ensures fault { IfErr result (λ f. f ≡ Fault.NoMemory) }
     {
@@ -60,7 +60,7 @@ impl Room {
             return Err(Fault::NoMemory);
         };
         let met = Met::new(alloc, used)?;
-        Ok(Room {
+        Ok(CheckRoom {
             walks: WalkRoom { met, seen, stops },
             chains,
             places,

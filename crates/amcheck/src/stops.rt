@@ -23,7 +23,7 @@ pub(crate) struct Stop {
     pub(crate) low_at: Option<u32>,
     pub(crate) left: Option<u32>,
     /// Whether the page to the left has an incomplete split.
-    pub(crate) behind: bool,
+    pub(crate) left_is_split: bool,
 }
 
 /// The low of a stop.
@@ -50,7 +50,7 @@ pub(crate) fn next_stop(stop: &Stop, sketch: &Sketch, right: u32) -> Stop
         block: right,
         low_at,
         left: Some(stop.block),
-        behind: sketch.split,
+        left_is_split: sketch.split,
     }
 }
 
@@ -89,25 +89,25 @@ fn has_wrong_item(sketch: &Sketch, low: &Option<Bound>) -> bool
 fn is_too_much(
     root: Option<u32>,
     left: Option<u32>,
-    behind: bool,
+    left_is_split: bool,
     low: &Option<Bound>,
     block: u32,
 ) -> bool
     ensures { IsTrue result
-        ↔ IsTooMuch root (record { low = low.now; left = left; behind = behind }) block }
+        ↔ IsTooMuch root (record { low = low.now; left = left; left_is_split = left_is_split }) block }
 {
     match root {
         None => false,
-        Some(root) => block != root && !(left == Some(root) && behind),
+        Some(root) => block != root && !(left == Some(root) && left_is_split),
     }
 }
 
 /// Whether a half-dead page follows one with an incomplete split.
-fn is_half_dead_after(sketch: &Sketch, behind: bool) -> bool
-    ensures { IsTrue result ↔ (sketch.now.state ≡ HalfDead) × (behind ≡ true) }
+fn is_half_dead_after(sketch: &Sketch, left_is_split: bool) -> bool
+    ensures { IsTrue result ↔ (sketch.now.state ≡ HalfDead) × (left_is_split ≡ true) }
 {
     match sketch.state {
-        PageState::HalfDead => behind,
+        PageState::HalfDead => left_is_split,
         PageState::Live | PageState::Deleted => false,
     }
 }
@@ -128,7 +128,7 @@ pub(crate) fn find_number(
     stop: &Stop,
 ) -> Option<u8>
     ensures least { IsLeastNumber (IsWrongSketch keys sketch.now root
-        (record { low = low.now; left = stop.now.left; behind = stop.now.behind })
+        (record { low = low.now; left = stop.now.left; left_is_split = stop.now.left_is_split })
         stop.now.block) result }
 {
     if is_linked_wrongly(sketch, stop.left) {
@@ -143,10 +143,10 @@ pub(crate) fn find_number(
     if has_wrong_item(sketch, low) {
         return Some(6);
     }
-    if is_too_much(root, stop.left, stop.behind, low, stop.block) {
+    if is_too_much(root, stop.left, stop.left_is_split, low, stop.block) {
         return Some(10);
     }
-    if is_half_dead_after(sketch, stop.behind) {
+    if is_half_dead_after(sketch, stop.left_is_split) {
         return Some(12);
     }
     if has_wrong_keys(sketch, keys) {

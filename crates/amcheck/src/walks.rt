@@ -14,7 +14,7 @@ use crate::stops::{Stop, next_stop};
 
 /// How a walk ended.
 #[derive(Clone, Copy)]
-pub(crate) enum End {
+pub(crate) enum WalkEnd {
     /// At the rightmost page.
     Whole,
     /// At a block that isn't in use, or whose page is of another level.
@@ -32,7 +32,7 @@ pub(crate) fn walk(
     depth: u8,
     level: u8,
     begin: u32,
-) -> End
+) -> WalkEnd
     requires some { 0 < length pages.now }
     requires few { length pages.now ≤ 65536 }
     requires met { IsMet met.old (length pages.now) }
@@ -53,22 +53,22 @@ pub(crate) fn walk(
         block: begin,
         low_at: None,
         left: None,
-        behind: false,
+        left_is_split: false,
     };
     for _ in 0..pages.len() {
         if !is_on_level(pages, level, stop.block) {
-            return End::Off(stop.block);
+            return WalkEnd::Off(stop.block);
         }
         if met.has(pages.len() as u32, stop.block) {
-            return End::Met(stop);
+            return WalkEnd::Met(stop);
         }
         met.add(pages.len() as u32, stop.block);
         stops.push_reserved(stop);
         let sketch = pages.sketch(stop.block);
         match sketch.right {
-            None => return End::Whole,
+            None => return WalkEnd::Whole,
             Some(right) => stop = next_stop(&stop, sketch, right),
         }
     }
-    End::Met(stop)
+    WalkEnd::Met(stop)
 }

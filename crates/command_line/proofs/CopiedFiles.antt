@@ -29,11 +29,11 @@ module _ (was is : Entry → Bool) (same : (e : Entry) → was e ≡ is e) where
   many_same : (count : ℕ) → AreSoMany was count → AreSoMany is count
   many_same count many = record { listed = many.listed; once = many.once; such = λ e. many.such e ∙ same e; many = many.many }
 
-  index_same : (limits : Format) (image : List ℕ) → IsIndexOf limits was image → IsIndexOf limits is image
-  index_same limits image left = record { pages = left.pages; index = left.index; tree = left.tree; contents = λ e. left.contents e ∙ same e }
+  index_same : (format : Format) (image : List ℕ) → IsIndexOf format was image → IsIndexOf format is image
+  index_same format image left = record { pages = left.pages; index = left.index; tree = left.tree; contents = λ e. left.contents e ∙ same e }
 
-  pub copy_same : {N : Type 0} (e : DeviceGhosts N) (limits : Format) (count : ℕ) (device : N) → IsCopyOf e limits was count device → IsCopyOf e limits is count device
-  copy_same e limits count device copy = record { many = many_same count copy.many; leaves = λ image may. index_same limits image (copy.leaves image may) }
+  pub copy_same : {N : Type 0} (e : DeviceGhosts N) (format : Format) (count : ℕ) (device : N) → IsCopyOf e format was count device → IsCopyOf e format is count device
+  copy_same e format count device copy = record { many = many_same count copy.many; leaves = λ image may. index_same format image (copy.leaves image may) }
 
   twice_same : (row : Row) → HasKeyTwice was (λ e. false) row → HasKeyTwice is (λ e. false) row
   twice_same row twice = record {
@@ -59,7 +59,7 @@ module _ {D N : Type 0} (d : DeviceGhosts D) (e : DeviceGhosts N) (g : Ghosts (S
     (begins : IsTrue (d.is_honest (device_of d first.store)) → (format : Format) (pages : List Page) → HasIndex format pages (bytes_before bytes (d.trace (device_of d first.store)))
     → IsTreeFor format pages → IndexBegins d g format pages first)
     (honest_first : (g.backing last.store).honest ≡ true → IsTrue (d.is_honest (device_of d first.store)))
-    (sizes_are : limits ≡ limits_of_copy sizes (sizes_of (state_of d first.store).limits)) (follows : g.follows first.store last.store)
+    (sizes_are : limits ≡ limits_of_copy sizes (sizes_of (state_of d first.store).format)) (follows : g.follows first.store last.store)
   where
     pub copy_from_file : (copied : CopyEnd N) → OnOk copied (AreLimits (made limits))
         → IfOk copied (λ copy. IsTrue (e.is_honest copy.device)
@@ -71,7 +71,7 @@ module _ {D N : Type 0} (d : DeviceGhosts D) (e : DeviceGhosts N) (g : Ghosts (S
       follows = follows;
       whole = λ honest_new honest format pages has tree.
           let begun = begins (honest_first honest) format pages has tree in
-          let same : made limits ≡ made (limits_of_copy sizes (sizes_of format)) = ap made (sizes_are ∙ ap (λ (f : Format). limits_of_copy sizes (sizes_of f)) begun.limits_are) in (
+          let same : made limits ≡ made (limits_of_copy sizes (sizes_of format)) = ap made (sizes_are ∙ ap (λ (f : Format). limits_of_copy sizes (sizes_of f)) begun.format_is) in (
             subst AreLimits same allowed,
             subst (λ (f : Format). IsCopyOf e f (entry_on_live_leaf pages) copy.count copy.device) same
                 (copy_same (has_entry g first.store) (entry_on_live_leaf pages) (λ x. begun.fits.explains.contents x) e (made limits) copy.count copy.device

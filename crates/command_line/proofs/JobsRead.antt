@@ -55,7 +55,7 @@ pub first_no_job : (all here lines : List (List ℕ)) (line : List ℕ) (set n :
 first_no_job all here lines line set n jobs first place none read = record {
   before = read.before;
   line = line;
-  behind = lines;
+  after = lines;
   jobs = jobs;
   parts = read.parts ∙ ap (λ (ls : List (List ℕ)). read.before ++ ls) first;
   place = place ∙ ap (λ (m : ℕ). m + 1) (sym read.counted);

@@ -39,8 +39,8 @@ pub world_not_opened : {D : Type 0} (d : DeviceGhosts D) (bytes : ℕ → List �
     (frames sessions n : ℕ) (before after : D) (fault : Fault)
     → d.trace before ≡ first (bytes n) → d.failures before ≡ 0 → length (d.trace after).now.seen ≡ length (d.trace before).now.seen
     → IsWorldRefusal (d.is_honest after) frames sessions (d.trace before) (d.trace after) (d.failures before) (d.failures after) fault
-    → (IsTrue (d.is_honest after) → AreFrames frames → 1 ≤ sessions → sessions ≤ 64 → (limits : Format) (pages : List Page)
-    → HasIndex limits pages (d.trace before).now.seen → IsTreeFor limits pages → IsNoMemoryOrIo fault)
+    → (IsTrue (d.is_honest after) → AreFrames frames → 1 ≤ sessions → sessions ≤ 64 → (format : Format) (pages : List Page)
+    → HasIndex format pages (d.trace before).now.seen → IsTreeFor format pages → IsNoMemoryOrIo fault)
     → IsWorldNotOpened d bytes frames sessions fault after
 world_not_opened d bytes sized frames sessions n before after fault held none len cause sound =
     let seen = ap (λ (t : Trace). t.now.seen) held in
@@ -49,8 +49,8 @@ world_not_opened d bytes sized frames sessions n before after fault held none le
     record {
       cause = subst (λ (failed : ℕ). IsWorldRefusal (d.is_honest after) frames sessions (first (bytes_before bytes (d.trace after))) (d.trace after) failed (d.failures after) fault) none
           (subst (λ (t : Trace). IsWorldRefusal (d.is_honest after) frames sessions t (d.trace after) (d.failures before) (d.failures after) fault) is cause);
-      sound = λ honest allowed some few limits pages index tree.
-          sound honest allowed some few limits pages (subst (HasIndex limits pages) (sym (ap (λ (t : Trace). t.now.seen) is)) index) tree;
+      sound = λ honest allowed some few format pages index tree.
+          sound honest allowed some few format pages (subst (HasIndex format pages) (sym (ap (λ (t : Trace). t.now.seen) is)) index) tree;
     }
 
 -- if the opening was refused, so was the run

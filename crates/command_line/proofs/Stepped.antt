@@ -86,10 +86,10 @@ module _ {S T : Type 0} (g : Ghosts S) (laws : Laws g) (rows : SetGhosts T) wher
           }
 
       -- ... and leaves fewer steps for the call
-      pub within_more : (before behind : ℕ) → before ≤ behind + 1 → answer ≡ Going → (g.state b.store).limits.pages ≤ 65536
+      pub within_more : (before after : ℕ) → before ≤ after + 1 → answer ≡ Going → (g.state b.store).format.pages ≤ 65536
           → ForEachWorldHistory g rows a b (λ start history calls. HasStepsLeft g rows session before a b)
-          → ForEachWorldHistory g rows a c (λ start history calls. HasStepsLeft g rows session behind a c)
-      within_more before behind one_less going low within honest start history calls fits =
+          → ForEachWorldHistory g rows a c (λ start history calls. HasStepsLeft g rows session after a c)
+      within_more before after one_less going low within honest start history calls fits =
           let later = laws.follows_later b.store c.store (next b.store (laws.follows_same b.store)) in
           let most = within (later.honest honest) start history calls fits in
           let r = gone (later.honest honest) start history calls fits in
@@ -99,7 +99,7 @@ module _ {S T : Type 0} (g : Ghosts S) (laws : Laws g) (rows : SetGhosts T) wher
           omega (arith, most, fewer)
 
     -- so the steps that may be made are never used up
-    pub within_some : (a b : World S T) (left : ℕ) → left ≤ 0 → (g.state a.store).limits.pages ≤ 65536
+    pub within_some : (a b : World S T) (left : ℕ) → left ≤ 0 → (g.state a.store).format.pages ≤ 65536
         → ForEachWorldHistory g rows a b (λ start history calls. HasStepsLeft g rows session left a b → ⊥)
     within_some a b left out low honest start history calls fits most =
         let few = steps_few g laws start (snapshot_in rows a history calls) session fits low in

@@ -22,8 +22,8 @@ pub record IsOpenedFromFile {D : Type 0} (d : DeviceGhosts D) (bytes : ℕ → L
   pub read : IsTrue (d.is_honest (device_of d store))
       → StandsOnDevice (state_of d store) (bytes_before bytes (d.trace (device_of d store)))
       (d.trace (device_of d store)).now.seen
-  pub same : IsTrue (d.is_honest (device_of d store)) → (limits : Format) (pages : List Page)
-      → HasIndex limits pages (bytes_before bytes (d.trace (device_of d store))) → IsSameIndex d limits pages store
+  pub same : IsTrue (d.is_honest (device_of d store)) → (format : Format) (pages : List Page)
+      → HasIndex format pages (bytes_before bytes (d.trace (device_of d store))) → IsSameIndex d format pages store
 
 -- The store of the index in a file that held these bytes: its pages are those that it was opened with, and
 -- only its own calls have written since.

@@ -77,9 +77,9 @@ sets_after set (job ∷ jobs) = sets_after (sets_with set job) jobs
 pub record IsFirstNoJob (number : ℕ) (lines : List (List ℕ)) : Type 0 where
   pub before : List (List ℕ)
   pub line : List ℕ
-  pub behind : List (List ℕ)
+  pub after : List (List ℕ)
   pub jobs : List Job
-  pub parts : lines ≡ before ++ line ∷ behind
+  pub parts : lines ≡ before ++ line ∷ after
   pub place : number ≡ length before + 1
   pub spelled : SpellJobs 0 before jobs
   pub none : SpellsNoJob line

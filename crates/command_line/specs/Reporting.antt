@@ -35,14 +35,14 @@ pub record PrintsDamage (honest parents : Bool) (st : State) (old new : Option (
   pub number : ℕ
   pub block : ℕ
   pub printed : Appends old new (damage_text number block ++ 10 ∷ [])
-  pub first : honest ≡ true → IsFirstDamage parents st.limits.unique st.pages number block
-  pub unsound : honest ≡ true → IsTreeFor st.limits st.pages → ⊥
+  pub first : honest ≡ true → IsFirstDamage parents st.format.unique st.pages number block
+  pub unsound : honest ≡ true → IsTreeFor st.format st.pages → ⊥
 
 -- the pages are sound: with parents and children a B-link tree, without them an index of levels; and on a
 -- unique index those of one
 abbrev pub AreSound : Bool → State → Type 0
-AreSound true st = IsTreeFor st.limits st.pages
-AreSound false st = HasLevelsFor st.limits st.pages
+AreSound true st = IsTreeFor st.format st.pages
+AreSound false st = HasLevelsFor st.format st.pages
 
 -- what was printed of an answer, and how it ended: the report, the damage, or nothing
 abbrev pub PrintsAnswer : Result Report CheckFault → Option (List ℕ) → Option (List ℕ) → End → Type 0

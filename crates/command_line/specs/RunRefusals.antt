@@ -34,8 +34,8 @@ IsWorldRefusal honest frames sessions old new failed fails fault =
 -- whose device was left so. A sound index is refused for want of memory or of the device alone.
 pub record IsWorldNotOpened {D : Type 0} (d : DeviceGhosts D) (bytes : ℕ → List ℕ) (frames sessions : ℕ) (fault : Fault) (device : D) : Type 0 where
   pub cause : IsWorldRefusal (d.is_honest device) frames sessions (first (bytes_before bytes (d.trace device))) (d.trace device) 0 (d.failures device) fault
-  pub sound : IsTrue (d.is_honest device) → AreFrames frames → 1 ≤ sessions → sessions ≤ 64 → (limits : Format) (pages : List Page)
-      → HasIndex limits pages (bytes_before bytes (d.trace device)) → IsTreeFor limits pages → IsNoMemoryOrIo fault
+  pub sound : IsTrue (d.is_honest device) → AreFrames frames → 1 ≤ sessions → sessions ≤ 64 → (format : Format) (pages : List Page)
+      → HasIndex format pages (bytes_before bytes (d.trace device)) → IsTreeFor format pages → IsNoMemoryOrIo fault
 
 -- ... or the file couldn't be taken
 abbrev pub IsWorldOpeningRefused : {D : Type 0} → DeviceGhosts D → (ℕ → List ℕ) → ℕ → ℕ → Fault → Option D → Type 0

@@ -27,9 +27,9 @@ pub record IsWorldOfFile {D T : Type 0} (d : DeviceGhosts D) (g : Ghosts (Store 
   pub opened : IsFreshlyOpened frames (state_of d world.store)
   pub sessions_are : length world.calls.slots.items ≡ sessions
   pub sets_are : world.sets.items ≡ sets
-  pub begins : IsTrue (d.is_honest (device_of d world.store)) → (limits : Format) (pages : List Page)
-      → HasIndex limits pages (bytes_before bytes (d.trace (device_of d world.store))) → IsTreeFor limits pages
-      → BeginsWith d g rows limits pages world
+  pub begins : IsTrue (d.is_honest (device_of d world.store)) → (format : Format) (pages : List Page)
+      → HasIndex format pages (bytes_before bytes (d.trace (device_of d world.store))) → IsTreeFor format pages
+      → BeginsWith d g rows format pages world
 
 -- what was printed is a run of these jobs on such a world, with a session for each worker, which left this
 -- one

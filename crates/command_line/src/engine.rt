@@ -213,11 +213,11 @@ impl Engine {
         ensures setting { self.new.setting ≡ self.old.setting }
         ensures sets { OnOk result (self.new.world.sets ≡ sets) }
         // What is opened is the index that this image of the device holds.
-        ensures image { OnOk result ((limits : Format) (pages : List Page)
-            → HasIndex limits pages
-            (left_by image (device_of ⟦<MemDevice as Device>⟧ self.old.world.store)) → IsTreeFor limits pages
+        ensures image { OnOk result ((format : Format) (pages : List Page)
+            → HasIndex format pages
+            (left_by image (device_of ⟦<MemDevice as Device>⟧ self.old.world.store)) → IsTreeFor format pages
             → BeginsWith ⟦<MemDevice as Device>⟧ ⟦<Store<MemDevice> as PageStore>⟧
-            ⟦<DeadList as DeadRows>⟧ limits pages self.new.world) }
+            ⟦<DeadList as DeadRows>⟧ format pages self.new.world) }
         ensures reopened { OnOk result ((start : IndexEntry → Bool) (history : List Action)
             (calls : List Call)
             → WorldFits ⟦<Store<MemDevice> as PageStore>⟧ ⟦<DeadList as DeadRows>⟧ self.old.world
@@ -226,7 +226,7 @@ impl Engine {
             start history calls
             → BeginsAfterPrefix ⟦<MemDevice as Device>⟧ ⟦<Store<MemDevice> as PageStore>⟧
             ⟦<DeadList as DeadRows>⟧
-            (state_of ⟦<MemDevice as Device>⟧ self.old.world.store).limits start history
+            (state_of ⟦<MemDevice as Device>⟧ self.old.world.store).format start history
             (backing_of (held_by ⟦<MemDevice as Device>⟧ self.old.world.store)).durable
             self.new.world) }
         ensures refused { OnErr result (self.new ≡ self.old) }
@@ -250,11 +250,11 @@ fn opened(
     ensures sessions { IfOk result (λ world.
         length world.calls.slots.items ≡ setting.now.sessions) }
     ensures sets { IfOk result (λ world. world.sets ≡ sets) }
-    ensures begins { IsSetting setting.now → (limits : Format) (pages : List Page)
-        → HasIndex limits pages (trace_of device).now.seen → IsTreeFor limits pages
+    ensures begins { IsSetting setting.now → (format : Format) (pages : List Page)
+        → HasIndex format pages (trace_of device).now.seen → IsTreeFor format pages
         → MatchResult result
         (BeginsWith ⟦<MemDevice as Device>⟧ ⟦<Store<MemDevice> as PageStore>⟧
-        ⟦<DeadList as DeadRows>⟧ limits pages) IsNoMemoryOrIo }
+        ⟦<DeadList as DeadRows>⟧ format pages) IsNoMemoryOrIo }
 {
     match World::open(alloc, device, setting.frames, setting.sessions, sets) {
         Ok(world) => Ok(world),

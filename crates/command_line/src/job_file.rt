@@ -43,8 +43,8 @@ pub fn read_jobs(alloc: Global, text: &[u8]) -> Result<JobFile, JobFileError>
     let mut set = 0u32;
     let mut rest = text;
     while !rest.is_empty() {
-        let (line, behind) = first_line(rest);
-        rest = behind;
+        let (line, later) = first_line(rest);
+        rest = later;
         let Some(line) = parse_job(line) else {
             return Err(JobFileError::NotAJob(jobs.len() as u64 + 1));
         };

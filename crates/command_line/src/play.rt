@@ -121,8 +121,8 @@ fn run<W: Write, E: Write>(
     let mut rest = text;
     while !rest.is_empty() {
         number = number.saturating_add(1);
-        let (line, behind) = first_line(rest);
-        rest = behind;
+        let (line, later) = first_line(rest);
+        rest = later;
         match play_line(alloc, engine, line, rest, &mut set, out)? {
             Played::Answered => {}
             Played::NoEvent => {
@@ -141,8 +141,8 @@ fn sets_of(alloc: Global, script: &[u8]) -> Result<Vec<DeadList>, AllocError> {
     let mut sets = Vec::new(alloc);
     let mut rest = script;
     while !rest.is_empty() {
-        let (line, behind) = first_line(rest);
-        rest = behind;
+        let (line, later) = first_line(rest);
+        rest = later;
         match parse(line) {
             Ok(Line::Crash(_)) => return Ok(sets),
             Ok(line) => {

@@ -31,7 +31,7 @@ use std::rt::Files;
 use std::sync::Wait;
 use std::thread::Threads;
 use text_forms::print_answer;
-use world::{NotOpened, World};
+use world::{World, WorldNotOpened};
 
 /// What a run is asked for.
 #[derive(Clone, Copy)]
@@ -256,7 +256,7 @@ fn open_world<'a, R: Files<File = File>, S: Start>(
     };
     match World::open(alloc, device, asked.frames, asked.workers, sets) {
         Ok(world) => Ok(world),
-        Err(NotOpened { fault, device, .. }) => Err(Unopened {
+        Err(WorldNotOpened { fault, device, .. }) => Err(Unopened {
             fault,
             said: said_of(asked.path, device.error()),
             device: Some(device),

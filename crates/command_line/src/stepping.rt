@@ -15,7 +15,7 @@ use world::World;
 /// Steps of a session's call until one doesn't answer `Going`, and that answer. Over a device that breaks its
 /// model a call that goes on and on is refused with `PageDamaged(0)` (17), after 2^64 - 1 steps.
 pub fn run_call<S: PageStore, T: DeadRows + Drop>(world: &mut World<S, T>, session: u32) -> Answer
-    requires pages { (S.state world.old.store).limits.pages ≤ 65536 }
+    requires pages { (S.state world.old.store).format.pages ≤ 65536 }
     ensures steps { Continues S.follows world.old.store world.new.store }
     ensures sizes { SameSizes S.PageStore world.old world.new }
     ensures goes { ForEachWorldHistory S.PageStore T.DeadRows world.old world.new
@@ -41,7 +41,7 @@ pub fn run_insert<S: PageStore, T: DeadRows + Drop>(
     session: u32,
     entry: Entry,
 ) -> Answer
-    requires pages { (S.state world.old.store).limits.pages ≤ 65536 }
+    requires pages { (S.state world.old.store).format.pages ≤ 65536 }
     ensures sizes { SameSizes S.PageStore world.old world.new }
     ensures goes { ForEachWorldHistory S.PageStore T.DeadRows world.old world.new
         (IsSteppedInsert S.PageStore T.DeadRows session entry result world.old world.new) }

@@ -112,12 +112,12 @@ due_more : (at : ℕ → Node) (s : LeftContext) (bs : List ℕ) (d : Downlink) 
 due_more at s [] d i = absurd i
 due_more at s (b ∷ bs) d i = refl
 
-due_one : (state : PageState) (behind : Bool) (low : Option Bound) (b : ℕ) (d : Downlink) → IsDownlinkAmong d (due_link state behind low b) → d.bound ≡ low
+due_one : (state : PageState) (left_is_split : Bool) (low : Option Bound) (b : ℕ) (d : Downlink) → IsDownlinkAmong d (due_link state left_is_split low b) → d.bound ≡ low
 due_one Live false low b d (inl e) = ap (λ (x : Downlink). x.bound) e
 due_one Live false low b d (inr i) = absurd i
 due_one Live true low b d i = absurd i
-due_one HalfDead behind low b d i = absurd i
-due_one Deleted behind low b d i = absurd i
+due_one HalfDead left_is_split low b d i = absurd i
+due_one Deleted left_is_split low b d i = absurd i
 
 past_low : (state : PageState) (level : ℕ) (s : LeftContext) (node : Node) (c : Option Bound) → FitsState state level s node → is_some node.high ≡ true
     → IsFrom (low_past state s.low node.high) c → IsFrom s.low c
@@ -128,26 +128,26 @@ past_low Deleted level s node c f some from = absurd f
 pub due_from : (at : ℕ → Node) (level : ℕ) (s : LeftContext) (xs : List ℕ) (d : Downlink) → IsRunOf at level s xs None → IsDownlinkAmong d (due_links at s xs)
     → IsFrom s.low d.bound
 due_from at level s [] d run i = absurd i
-due_from at level s (b ∷ bs) d run i = elim (among_cases d (due_link (at b).state s.behind s.low b) (due_links at (past b (at b) s) bs) i) [
-  | inl l ↦ inl (due_one (at b).state s.behind s.low b d l)
+due_from at level s (b ∷ bs) d run i = elim (among_cases d (due_link (at b).state s.left_is_split s.low b) (due_links at (past b (at b) s) bs) i) [
+  | inl l ↦ inl (due_one (at b).state s.left_is_split s.low b d l)
   | inr r ↦ past_low (at b).state level s (at b) d.bound run.0.fits (run.0.high_is ∙ due_more at (past b (at b) s) bs d r) (due_from at level (past b (at b) s) bs d run.1 r)
 ]
 
 pub due_ascend : (at : ℕ → Node) (level : ℕ) (s : LeftContext) (xs : List ℕ) → IsRunOf at level s xs None → Ascend (due_links at s xs)
 due_ascend at level s [] run = tt
 due_ascend at level s (b ∷ bs) run =
-    go (at b).state s.behind run.0.fits (λ d i. due_from at level (past b (at b) s) bs d run.1 i) (due_ascend at level (past b (at b) s) bs run.1)
+    go (at b).state s.left_is_split run.0.fits (λ d i. due_from at level (past b (at b) s) bs d run.1 i) (due_ascend at level (past b (at b) s) bs run.1)
   where
-    go : (state : PageState) (behind : Bool) → FitsState state level s (at b)
+    go : (state : PageState) (left_is_split : Bool) → FitsState state level s (at b)
         → ((d : Downlink) → IsDownlinkAmong d (due_links at (past b (at b) s) bs) → IsFrom (low_past state s.low (at b).high) d.bound)
-        → Ascend (due_links at (past b (at b) s) bs) → Ascend (due_link state behind s.low b ++ due_links at (past b (at b) s) bs)
+        → Ascend (due_links at (past b (at b) s) bs) → Ascend (due_link state left_is_split s.low b ++ due_links at (past b (at b) s) bs)
     go Live false f from more = (
       λ d i. beyond_from s.low (at b).high d.bound (high_there s.low (at b).high (run.0.high_is ∙ due_more at (past b (at b) s) bs d i) f.0) (from d i),
       more,
     )
     go Live true f from more = more
-    go HalfDead behind f from more = more
-    go Deleted behind f from more = absurd f
+    go HalfDead left_is_split f from more = more
+    go Deleted left_is_split f from more = absurd f
 
 -- the downlinks that a level has
 bound_in : (low bound high : Option Bound) → IsBoundWithin low bound high → IsBoundBeyond low bound × Rises bound high

@@ -24,6 +24,7 @@ pub use Rattle.tree_acts.specs.TheoremTree.{IsTree}
 pub use Rattle.damages.specs.Damages.{ComesBefore, HasNotBeyond, Here, Index, IsAfterRoot, IsBack, IsDamage, IsFirstDamage, IsMetBefore, IsOfChain, IsOfParents, IsOfPath, IsOnChain, IsOnLevel}
 pub use Rattle.damages.specs.Damages.{IsSound, IsUnlinked, Item, Place, Site, first_child, head, index_of, left_after_steps, moved_left, next_place, node, or_block, place_at, place_from, rank}
 pub use Rattle.damages.specs.Damages.{site_block, context, start}
+pub use Rattle.damages.specs.Damages.IsOfChain.{beside_root, dead_after_split, deleted, met_before, not_beyond, not_rising, off_level, shared_key, wrong_left}
 pub use Rattle.damages.specs.Damages.Site.{at_child, at_page, nowhere, on_chain, on_way}
 pub use Rattle.damages.specs.Levels.{AreLevels, HasLevels, HasUniqueLevels, IsAbove, StandAtTheirBlocks}
 pub use Rattle.damages.specs.Lows.{IsBoundBeyond, IsFirstBeyond, IsSecondBeyond}

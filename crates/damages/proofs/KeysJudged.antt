@@ -6,6 +6,7 @@ use Rattle.tree_shape.specs.KeyBounds.{IsKeyBound}
 use Rattle.damages.proofs.Imports.{cases_Bool, AllByRecursion, is_lt, key_cmp, Bound, Entry, entries_of, IsPage, IsOfKind, IsLeafIn, Ascends, FollowedBy, Downlink, Items, Meta, Entries, Downlinks}
 use Rattle.damages.proofs.Imports.{Page, PageState, Live, Deleted, KeyBefore, IsKeyLink, IsUniqueNode, IsUniquePage, AreUnique, Node, links_of, node_of, node_from, nodes_of, no_node, Index, false≢true}
 use Rattle.damages.proofs.Imports.{index_of, Here, Site, IsOfChain, IsDamage, IsSound, on_way, on_chain, at_child, at_page, nowhere, StandAtTheirBlocks, HasUniqueLevels, slice_get_within}
+use Rattle.damages.proofs.Imports.{beside_root, dead_after_split, deleted, met_before, not_beyond, not_rising, off_level, shared_key, wrong_left}
 use Rattle.damages.proofs.Items.{meta_is}
 
 -- each part of it can be decided
@@ -44,15 +45,15 @@ unique_so n h = record {
 
 -- fewer damages are seen where keys aren't
 chain_more : {ix : Index} (keys : Bool) (h : Here ix) (number : ℕ) → IsOfChain false h number → IsOfChain keys h number
-chain_more keys h number (inl a) = inl a
-chain_more keys h number (inr (inl a)) = inr (inl a)
-chain_more keys h number (inr (inr (inl a))) = inr (inr (inl a))
-chain_more keys h number (inr (inr (inr (inl a)))) = inr (inr (inr (inl a)))
-chain_more keys h number (inr (inr (inr (inr (inl a))))) = inr (inr (inr (inr (inl a))))
-chain_more keys h number (inr (inr (inr (inr (inr (inl a)))))) = inr (inr (inr (inr (inr (inl a)))))
-chain_more keys h number (inr (inr (inr (inr (inr (inr (inl a))))))) = inr (inr (inr (inr (inr (inr (inl a))))))
-chain_more keys h number (inr (inr (inr (inr (inr (inr (inr (inl a)))))))) = inr (inr (inr (inr (inr (inr (inr (inl a)))))))
-chain_more keys h number (inr (inr (inr (inr (inr (inr (inr (inr a)))))))) = absurd (false≢true a.1)
+chain_more keys h number (off_level k off) = off_level k off
+chain_more keys h number (wrong_left k differs) = wrong_left k differs
+chain_more keys h number (met_before k met) = met_before k met
+chain_more keys h number (deleted k gone) = deleted k gone
+chain_more keys h number (not_rising k live low) = not_rising k live low
+chain_more keys h number (not_beyond k has) = not_beyond k has
+chain_more keys h number (beside_root k top not_root not_after) = beside_root k top not_root not_after
+chain_more keys h number (dead_after_split k dead after) = dead_after_split k dead after
+chain_more keys h number (shared_key k seen shared) = absurd (false≢true seen)
 
 pub more : {ix : Index} (parents keys : Bool) (site : Site ix) (number : ℕ) → IsDamage parents false site number → IsDamage parents keys site number
 more parents keys (on_way depth step deep) number damage = damage
@@ -66,7 +67,7 @@ without_keys parents keys pages sound site number damage = sound site number (mo
 
 -- a page on a chain is one of a unique index
 pub unique_levels : (parents : Bool) (pages : List Page) → IsSound parents true pages → HasUniqueLevels pages
-unique_levels parents pages sound block on = unique_so (nodes_of pages block) (λ fails. sound (on_chain here) 13 (inr (inr (inr (inr (inr (inr (inr (inr (refl, refl, fails))))))))))
+unique_levels parents pages sound block on = unique_so (nodes_of pages block) (λ fails. sound (on_chain here) 13 (shared_key refl refl fails))
   where
     here : Here (index_of pages)
     here = record { depth = on.depth; place = on.place; block = block; deep = on.deep; is = on.is }

@@ -4,6 +4,7 @@ use Rattle.tree_shape.specs.Tree.{IsMetaOf}
 use Rattle.damages.proofs.Imports.{cases_eq, Page, Node, node_from, nodes_of, LeftContext, context_after, first_context, first_or, IsRunOf, IsRootLevel, IsIn, IsNotIn, AreDistinct, Index, index_of}
 use Rattle.damages.proofs.Imports.{or_block, moved_left, first_child, head, Place, place_at, IsOnLevel, IsAfterRoot, IsSound, IsOfChain, on_way, on_chain, StandAtTheirBlocks, IsAbove, AreLevels}
 use Rattle.damages.proofs.Imports.{HasLevels, same_Some}
+use Rattle.damages.proofs.Imports.{beside_root, met_before}
 use Rattle.damages.proofs.Decided.{no_link, link_so, on_level_so}
 use Rattle.damages.proofs.Fitting.{IsRight, right_here, page_there}
 use Rattle.damages.proofs.Items.{meta_is}
@@ -23,7 +24,7 @@ true_so true h = refl
 true_so false h = absurd (h (λ e. cc))
 
 after_so : (root : ℕ) (s : LeftContext) → ((IsAfterRoot root s → ⊥) → ⊥) → IsAfterRoot root s
-after_so root s h = (link_so s.left (Some root) (λ differ. h (λ b. differ b.0)), true_so s.behind (λ differ. h (λ b. differ b.1)))
+after_so root s h = (link_so s.left (Some root) (λ differ. h (λ b. differ b.0)), true_so s.left_is_split (λ differ. h (λ b. differ b.1)))
 
 -- page by page, the root's level has the root alone, or the root with an incomplete split and one page
 root_told : (at : ℕ → Node) (root : ℕ) (xs : List ℕ) → (xs ≢ []) → AreDistinct xs
@@ -95,7 +96,7 @@ module _ (parents : Bool) (pages : List Page) (stand : StandAtTheirBlocks pages)
     right_at k b is = right_here pages (record { depth = depth; place = k; block = b; deep = deep; is = is }) level stand sum (no_damage k b is)
 
     once_at : (j k b : ℕ) → j < k → (place_at ix depth j).block ≡ Some b → (place_at ix depth k).block ≡ Some b → ⊥
-    once_at j k b lt e f = no_damage k b f 3 (inr (inr (inl (refl, record { earlier = j; before = lt; same = e }))))
+    once_at j k b lt e f = no_damage k b f 3 (met_before refl (record { earlier = j; before = lt; same = e }))
 
     pub run_at : IsRunOf at level first_context (chain_at pages depth) None
     run_at = run pages depth level right_at once_at
@@ -124,7 +125,7 @@ module _ (parents : Bool) (pages : List Page) (stand : StandAtTheirBlocks pages)
       | inl is ↦ inl is
       | inr differs ↦ inr (subst (IsAfterRoot ix.root) (ap (λ (p : Place). p.context) (place_told n))
           (after_so ix.root (place_at ix depth n).context (λ fails.
-          no_damage n b (block_at n b e) 10 (inr (inr (inr (inr (inr (inr (inl (refl, top, differs, fails)))))))))))
+          no_damage n b (block_at n b e) 10 (beside_root refl top differs fails))))
     ])
 
   abbrev deep_of : (level : ℕ) → ℕ

@@ -53,16 +53,16 @@ pub record HasDueDownlink (at : ℕ → Node) (s : LeftContext) (xs : List ℕ) 
   pub there : slice_get xs place ≡ Some d.child
   pub bound : d.bound ≡ (context_after at s (take place xs)).low
   pub alive : (at d.child).state ≡ Live
-  pub clear : (context_after at s (take place xs)).behind ≡ false
+  pub clear : (context_after at s (take place xs)).left_is_split ≡ false
 
 pub due : (at : ℕ → Node) (s : LeftContext) (xs : List ℕ) (d : Downlink) → IsDownlinkAmong d (due_links at s xs) → HasDueDownlink at s xs d
 due at s [] d i = absurd i
-due at s (b ∷ bs) d i = elim (among_cases d (due_link (at b).state s.behind s.low b) (due_links at (past b (at b) s) bs) i) [
-  | inl l ↦ here (at b).state s.behind refl refl l
+due at s (b ∷ bs) d i = elim (among_cases d (due_link (at b).state s.left_is_split s.low b) (due_links at (past b (at b) s) bs) i) [
+  | inl l ↦ here (at b).state s.left_is_split refl refl l
   | inr r ↦ (let h = due at (past b (at b) s) bs d r in record { place = suc h.place; there = h.there; bound = h.bound; alive = h.alive; clear = h.clear })
 ]
   where
-    here : (state : PageState) (behind : Bool) → (at b).state ≡ state → s.behind ≡ behind → IsDownlinkAmong d (due_link state behind s.low b) → HasDueDownlink at s (b ∷ bs) d
+    here : (state : PageState) (left_is_split : Bool) → (at b).state ≡ state → s.left_is_split ≡ left_is_split → IsDownlinkAmong d (due_link state left_is_split s.low b) → HasDueDownlink at s (b ∷ bs) d
     here Live false is clear (inl e) = record {
       place = 0;
       there = ap (λ (z : Downlink). Some z.child) (sym e);
@@ -72,24 +72,24 @@ due at s (b ∷ bs) d i = elim (among_cases d (due_link (at b).state s.behind s.
     }
     here Live false is clear (inr i) = absurd i
     here Live true is clear i = absurd i
-    here HalfDead behind is clear i = absurd i
-    here Deleted behind is clear i = absurd i
+    here HalfDead left_is_split is clear i = absurd i
+    here Deleted left_is_split is clear i = absurd i
 
 pub is_due : (at : ℕ → Node) (s : LeftContext) (xs : List ℕ) (place : ℕ) (d : Downlink) → slice_get xs place ≡ Some d.child
     → d.bound ≡ (context_after at s (take place xs)).low
-    → (at d.child).state ≡ Live → (context_after at s (take place xs)).behind ≡ false → IsDownlinkAmong d (due_links at s xs)
+    → (at d.child).state ≡ Live → (context_after at s (take place xs)).left_is_split ≡ false → IsDownlinkAmong d (due_links at s xs)
 is_due at s [] place d there bound alive clear = absurd (no_link there)
 is_due at s (b ∷ bs) zero d there bound alive clear =
-    among_left d (due_link (at b).state s.behind s.low b) _
-    (subst (λ (state : PageState). IsDownlinkAmong d (due_link state s.behind s.low b)) (sym (ap (λ (c : ℕ). (at c).state) same ∙ alive))
-    (subst (λ (behind : Bool). IsDownlinkAmong d (due_link Live behind s.low b)) (sym clear) (inl whole)))
+    among_left d (due_link (at b).state s.left_is_split s.low b) _
+    (subst (λ (state : PageState). IsDownlinkAmong d (due_link state s.left_is_split s.low b)) (sym (ap (λ (c : ℕ). (at c).state) same ∙ alive))
+    (subst (λ (left_is_split : Bool). IsDownlinkAmong d (due_link Live left_is_split s.low b)) (sym clear) (inl whole)))
   where
     same : b ≡ d.child
     same = same_Some b d.child there
 
     whole : d ≡ record { bound = s.low; child = b }
     whole = λ i. record { bound = bound i; child = sym same i }
-is_due at s (b ∷ bs) (suc place) d there bound alive clear = among_right d (due_link (at b).state s.behind s.low b) _ (is_due at (past b (at b) s) bs place d there bound alive clear)
+is_due at s (b ∷ bs) (suc place) d there bound alive clear = among_right d (due_link (at b).state s.left_is_split s.low b) _ (is_due at (past b (at b) s) bs place d there bound alive clear)
 
 -- downlinks of ascending bounds, one at an earlier place or before the other on one page
 ascend_index : (xs : List Downlink) (i j : ℕ) (d e : Downlink) → Ascend xs → i < j → slice_get xs i ≡ Some d → slice_get xs j ≡ Some e

@@ -91,7 +91,7 @@ module _ (pages : List Page) (stand : StandAtTheirBlocks pages) (sound : IsSound
                     (sym (ap (λ (p : Place). p.block) told) ∙ is)
                     (bound_so i.link.bound (context child).low (λ differ. sound (at_page h) 7 (refl, inl (refl, i, child, refl, differ))) ∙ ap (λ (p : Place). p.context.low) told)
                     (live_so (at i.link.child).state level (place_at ix (suc depth) place).context (at i.link.child) right.placed.fits (λ dead. linked (inl dead)))
-                    (sym (ap (λ (p : Place). p.context.behind) told) ∙ bool_so (context child).behind (λ behind. linked (inr behind)))
+                    (sym (ap (λ (p : Place). p.context.left_is_split) told) ∙ bool_so (context child).left_is_split (λ left_is_split. linked (inr left_is_split)))
 
         by : IsOnChain ix i.link.child ⊎ (IsOnChain ix i.link.child → ⊥) → IsDownlinkAmong i.link (due_links at first_context lower)
         by (inl on) = on_chain on
@@ -134,7 +134,7 @@ module _ (pages : List Page) (stand : StandAtTheirBlocks pages) (sound : IsSound
           where
             differ : Live ≡ HalfDead → ⊥
             differ e = cc
-        not_unlinked (inr behind) = false≢true (sym a.clear ∙ sym (ap (λ (p : Place). p.context.behind) (lower_told a.place)) ∙ behind)
+        not_unlinked (inr left_is_split) = false≢true (sym a.clear ∙ sym (ap (λ (p : Place). p.context.left_is_split) (lower_told a.place)) ∙ left_is_split)
 
         alone : ((e : Downlink) → IsDownlinkAmong e (downlinks at first_context upper) → e.child ≢ d.child) → ⊥
         alone none' =

@@ -7,6 +7,7 @@ use Rattle.damages.proofs.Imports.{Contains, cases_lt, bound_of, Bound, Entry, D
 use Rattle.damages.proofs.Imports.{context_after, first_context, IsBeyond, Rises, AscendWithin, LinksWithin, FitsState, IsRootLevel, IsTreeOf, from_low, downlinks, Index, index_of, or_block}
 use Rattle.damages.proofs.Imports.{ComesBefore, Place, Here, Item, Site, node, context, IsOnLevel, IsOnChain, IsMetBefore, HasNotBeyond, IsAfterRoot, IsUnlinked, IsOfPath, IsOfChain, IsOfParents}
 use Rattle.damages.proofs.Imports.{IsDamage, IsSound, on_way, on_chain, at_child, at_page, nowhere, StandAtTheirBlocks, IsTree, IsBoundBeyond, same_Some}
+use Rattle.damages.proofs.Imports.{beside_root, dead_after_split, deleted, met_before, not_beyond, not_rising, off_level, shared_key, wrong_left}
 use Rattle.damages.proofs.Items.{leaf_links, upper_entries}
 use Rattle.damages.proofs.KeysJudged.{unique_at}
 use Rattle.damages.proofs.Linking.{among_at, had, has, IsHad, due, HasDueDownlink, is_due, ascend_items, ascend_places}
@@ -25,7 +26,7 @@ live_rises Live level s n f e = f.0
 live_rises HalfDead level s n f e = absurd cc
 live_rises Deleted level s n f e = absurd f
 
-dead_clear : (state : PageState) (level : ℕ) (s : LeftContext) (n : Node) → FitsState state level s n → state ≡ HalfDead → s.behind ≡ false
+dead_clear : (state : PageState) (level : ℕ) (s : LeftContext) (n : Node) → FitsState state level s n → state ≡ HalfDead → s.left_is_split ≡ false
 dead_clear Live level s n f e = absurd cc
 dead_clear HalfDead level s n f e = f.3
 dead_clear Deleted level s n f e = absurd f
@@ -134,24 +135,24 @@ module _ (pages : List Page) (stand : StandAtTheirBlocks pages) (chain : ℕ →
         (λ leaf. page_links h.block on.after_meta on.in_use (omega arith)) (λ upper. page_entries h.block on.after_meta on.in_use (omega arith)) (node h).state place_fits has'
 
     not_more : h.depth ≡ 0 → h.block ≢ ix.root → (IsAfterRoot ix.root (context h) → ⊥) → ⊥
-    not_more top not_root not_behind = elim (root_part at ix.root xs h.place h.block root_level (there pages chain t h)) [
+    not_more top not_root not_after_root = elim (root_part at ix.root xs h.place h.block root_level (there pages chain t h)) [
       | inl is ↦ not_root is
-      | inr b ↦ not_behind (subst (IsAfterRoot ix.root) (sym (context_is pages chain t h)) b)
+      | inr b ↦ not_after_root (subst (IsAfterRoot ix.root) (sym (context_is pages chain t h)) b)
     ]
       where
         root_level : IsRootLevel at ix.root xs
         root_level = subst (λ (l : ℕ). IsRootLevel at ix.root (chain l)) (let k : ix.top ≡ ix.top - h.depth = omega arith in k) t.root_level
 
     chain_sound : (keys : Bool) → (keys ≡ true → AreUnique pages) → (number : ℕ) → IsOfChain keys h number → ⊥
-    chain_sound keys unique number (inl a) = a.1 (on_level pages chain t h)
-    chain_sound keys unique number (inr (inl a)) = a.1 (placed pages chain t h).left_is
-    chain_sound keys unique number (inr (inr (inl a))) = not_met a.1
-    chain_sound keys unique number (inr (inr (inr (inl a)))) = not_deleted (node h).state (ix.top - h.depth) (context h) (node h) place_fits a.1
-    chain_sound keys unique number (inr (inr (inr (inr (inl a))))) = a.2 (live_rises (node h).state (ix.top - h.depth) (context h) (node h) place_fits a.1)
-    chain_sound keys unique number (inr (inr (inr (inr (inr (inl a)))))) = within a.1
-    chain_sound keys unique number (inr (inr (inr (inr (inr (inr (inl a))))))) = not_more a.1 a.2 a.3
-    chain_sound keys unique number (inr (inr (inr (inr (inr (inr (inr (inl a)))))))) = true≢false (sym a.2 ∙ dead_clear (node h).state (ix.top - h.depth) (context h) (node h) place_fits a.1)
-    chain_sound keys unique number (inr (inr (inr (inr (inr (inr (inr (inr a)))))))) = a.2 (unique_at pages h.block (unique a.1))
+    chain_sound keys unique number (off_level k off) = off (on_level pages chain t h)
+    chain_sound keys unique number (wrong_left k differs) = differs (placed pages chain t h).left_is
+    chain_sound keys unique number (met_before k met) = not_met met
+    chain_sound keys unique number (deleted k gone) = not_deleted (node h).state (ix.top - h.depth) (context h) (node h) place_fits gone
+    chain_sound keys unique number (not_rising k live low) = low (live_rises (node h).state (ix.top - h.depth) (context h) (node h) place_fits live)
+    chain_sound keys unique number (not_beyond k has) = within has
+    chain_sound keys unique number (beside_root k top not_root not_after) = not_more top not_root not_after
+    chain_sound keys unique number (dead_after_split k dead after) = true≢false (sym after ∙ dead_clear (node h).state (ix.top - h.depth) (context h) (node h) place_fits dead)
+    chain_sound keys unique number (shared_key k seen shared) = shared (unique_at pages h.block (unique seen))
 
     -- items stand above the leaves, and each is due on the level below
     below : Item h → h.depth < ix.top
@@ -200,9 +201,9 @@ module _ (pages : List Page) (stand : StandAtTheirBlocks pages) (chain : ℕ →
         let upper : suc (ix.top - h.depth) ≡ ix.top - (h.depth - 1) = omega arith in
         let context_told = context_is pages chain t h in
         let alive = live_so (node h).state (ix.top - h.depth) (context h) (node h) place_fits (λ dead. not_unlinked (inl dead)) in
-        let clear = bool_so (context h).behind (λ behind. not_unlinked (inr behind)) in
+        let clear = bool_so (context h).left_is_split (λ left_is_split. not_unlinked (inr left_is_split)) in
         let among = is_due at first_context xs h.place own
-        (there pages chain t h) refl alive (ap (λ (s : LeftContext). s.behind) (sym context_told) ∙ clear) in
+        (there pages chain t h) refl alive (ap (λ (s : LeftContext). s.left_is_split) (sym context_told) ∙ clear) in
         had_none (had at first_context (chain (ix.top - (h.depth - 1))) own
         (subst (λ (l : ℕ). IsDownlinkAmong own (downlinks at first_context (chain l))) upper
         (subst (IsDownlinkAmong own) (sym (t.parents (ix.top - h.depth) (omega arith))) among)))
@@ -236,7 +237,7 @@ module _ (pages : List Page) (stand : StandAtTheirBlocks pages) (chain : ℕ →
       where
         differ : Live ≡ HalfDead → ⊥
         differ e = cc
-    leads_to_linked i child same (inr behind) = true≢false (sym behind ∙ ap (λ (s : LeftContext). s.behind) (child_context i child same) ∙ (item_due i).clear)
+    leads_to_linked i child same (inr left_is_split) = true≢false (sym left_is_split ∙ ap (λ (s : LeftContext). s.left_is_split) (child_context i child same) ∙ (item_due i).clear)
 
   -- no page has two downlinks
   module _ (h : Here ix) (i : Item h) (page : Here ix) (first : Item page) (same : first.link.child ≡ i.link.child) where

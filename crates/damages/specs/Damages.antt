@@ -166,11 +166,11 @@ HasNotBeyond low node =
 
 -- right after the root with an incomplete split
 abbrev pub IsAfterRoot : ℕ → LeftContext → Type 0
-IsAfterRoot root context = (context.left ≡ Some root) × (context.behind ≡ true)
+IsAfterRoot root context = (context.left ≡ Some root) × (context.left_is_split ≡ true)
 
 -- half-dead, or right after a page with an incomplete split: a page without a downlink
 abbrev pub IsUnlinked : {ix : Index} → Here ix → Type 0
-IsUnlinked h = ((node h).state ≡ HalfDead) ⊎ ((context h).behind ≡ true)
+IsUnlinked h = ((node h).state ≡ HalfDead) ⊎ ((context h).left_is_split ≡ true)
 
 -- an earlier item, on a level above, an earlier page or the same one, that leads to the same child
 pub record IsSecond {ix : Index} {h : Here ix} (i : Item h) : Type 0 where
@@ -187,17 +187,16 @@ IsOfPath ix depth step number =
 
 -- ... of a page at its place in a chain; the last is seen if keys are: a whole entry as its high key or as
 -- one of its bounds, or, as the format has entries ascend, an entry with the key of the one before it,
-abbrev pub IsOfChain : {ix : Index} → Bool → Here ix → ℕ → Type 0
-IsOfChain {ix} keys h number =
-    ((number ≡ 1) × (IsOnLevel ix h.depth h.block → ⊥))
-    ⊎ ((number ≡ 2) × ((node h).left ≢ (context h).left))
-    ⊎ ((number ≡ 3) × IsMetBefore h)
-    ⊎ ((number ≡ 4) × ((node h).state ≡ Deleted))
-    ⊎ ((number ≡ 5) × ((node h).state ≡ Live) × (Rises (context h).low (node h).high → ⊥))
-    ⊎ ((number ≡ 6) × HasNotBeyond (context h).low (node h))
-    ⊎ ((number ≡ 10) × (h.depth ≡ 0) × (h.block ≢ ix.root) × (IsAfterRoot ix.root (context h) → ⊥))
-    ⊎ ((number ≡ 12) × ((node h).state ≡ HalfDead) × ((context h).behind ≡ true))
-    ⊎ ((number ≡ 13) × (keys ≡ true) × (IsUniqueNode (node h) → ⊥))
+pub data IsOfChain {ix : Index} (keys : Bool) (h : Here ix) (number : ℕ) : Type 0 where
+  off_level : number ≡ 1 → (IsOnLevel ix h.depth h.block → ⊥) → IsOfChain keys h number
+  wrong_left : number ≡ 2 → (node h).left ≢ (context h).left → IsOfChain keys h number
+  met_before : number ≡ 3 → IsMetBefore h → IsOfChain keys h number
+  deleted : number ≡ 4 → (node h).state ≡ Deleted → IsOfChain keys h number
+  not_rising : number ≡ 5 → (node h).state ≡ Live → (Rises (context h).low (node h).high → ⊥) → IsOfChain keys h number
+  not_beyond : number ≡ 6 → HasNotBeyond (context h).low (node h) → IsOfChain keys h number
+  beside_root : number ≡ 10 → h.depth ≡ 0 → h.block ≢ ix.root → (IsAfterRoot ix.root (context h) → ⊥) → IsOfChain keys h number
+  dead_after_split : number ≡ 12 → (node h).state ≡ HalfDead → (context h).left_is_split ≡ true → IsOfChain keys h number
+  shared_key : number ≡ 13 → keys ≡ true → (IsUniqueNode (node h) → ⊥) → IsOfChain keys h number
 
 -- ... of a page among its parents and children,
 abbrev pub IsOfParents : {ix : Index} → Here ix → ℕ → Type 0

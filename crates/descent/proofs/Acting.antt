@@ -40,7 +40,7 @@ pub others_rely : (st : State) (session : ℕ) (changed : List Page) → MayActW
 others_rely st session changed may lasts free other differ = record {
   held = refl;
   number = refl;
-  pages = λ block alone. pages_other st.limits (length st.pages) st.pages changed block may (omega arith) (apart_from_held st session other block changed differ alone free);
+  pages = λ block alone. pages_other st.format (length st.pages) st.pages changed block may (omega arith) (apart_from_held st session other block changed differ alone free);
   numbers = λ start runs. numbers_stay st (after_act changed st) other start runs lasts.places lasts.trails;
   lows = lasts.lows;
 }
@@ -55,7 +55,7 @@ does_finish st session changed order may lasts stay leaves finishes free = recor
   changes = record { acts = refl; apt = tt; contents = stay };
   flags = finishes;
   leaves = leaves;
-  limits = refl;
+  format = refl;
   frames = refl;
   begun = refl;
   running = refl;
@@ -87,7 +87,7 @@ pub others_rely_else : (st : State) (session : ℕ) (changed : List Page) (table
 others_rely_else st session changed table may lasts apart kept other differ = record {
   held = kept other differ;
   number = refl;
-  pages = λ block alone. pages_other st.limits (length st.pages) st.pages changed block may (omega arith) (apart other block differ alone);
+  pages = λ block alone. pages_other st.format (length st.pages) st.pages changed block may (omega arith) (apart other block differ alone);
   numbers = λ start runs.
       let stay = numbers_stay st (after_act changed st) other start runs lasts.places lasts.trails in
       record {
@@ -118,7 +118,7 @@ does_add st session e changed table order may lasts gain leaves absent splits ap
   };
   flags = record { raised = splits.raised; leaf = raised_else st (after_act changed st) table 0 splits.raised splits.leaf; moves = splits.moves; most = splits.most };
   leaves = record { cycle = leaves.cycle; each = leaves.each; others = leaves.others };
-  limits = refl;
+  format = refl;
   frames = refl;
   begun = refl;
   running = refl;
@@ -133,7 +133,7 @@ holds_else session old new table is order apart many kept = subst (λ (st : Stat
   changes = refl;
   flags = tt;
   leaves = leaves_same old (with_table old table) refl refl;
-  limits = refl;
+  format = refl;
   frames = refl;
   begun = refl;
   running = refl;
@@ -160,7 +160,7 @@ pub one_act : (old new : State) (changed : List Page) → new ≡ after_act chan
 one_act old new changed is = subst (λ (s : State). IsOneActAtMost old s) (sym is) (record {
   acts = inr refl;
   quiet = λ h. absurd (let k : suc old.acts ≡ old.acts = h in omega arith);
-  limits = refl;
+  format = refl;
   frames = refl;
   begun = refl;
   running = refl;
@@ -170,7 +170,7 @@ pub one_act_else : (old new : State) (changed : List Page) (table : Table) → n
 one_act_else old new changed table is = subst (λ (s : State). IsOneActAtMost old s) (sym is) (record {
   acts = inr refl;
   quiet = λ h. absurd (let k : suc old.acts ≡ old.acts = h in omega arith);
-  limits = refl;
+  format = refl;
   frames = refl;
   begun = refl;
   running = refl;
@@ -180,7 +180,7 @@ pub one_table : (old new : State) (table : Table) → new ≡ with_table old tab
 one_table old new table is = subst (λ (s : State). IsOneActAtMost old s) (sym is) (record {
   acts = inl refl;
   quiet = λ h. refl;
-  limits = refl;
+  format = refl;
   frames = refl;
   begun = refl;
   running = refl;
@@ -196,7 +196,7 @@ does_delete st session changed order may lasts stay deletes free = record {
   changes = record { acts = refl; apt = tt; contents = stay };
   deletes = deletes;
   cycle = refl;
-  limits = refl;
+  format = refl;
   frames = refl;
   begun = refl;
   running = refl;
@@ -212,7 +212,7 @@ cleans_nothing session old new same order =
       changes = d.changes;
       deletes = tt;
       cycle = d.leaves.cycle;
-      limits = d.limits;
+      format = d.format;
       frames = d.frames;
       begun = d.begun;
       running = d.running;

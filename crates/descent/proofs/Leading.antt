@@ -27,7 +27,7 @@ internal_links page level admitted is above = by page.items refl admitted.kind
 module _ (st : State) (start : ℕ) (clear : Bool) (aim : SearchKey) (to most : ℕ) (page : Page) (position : Position) (h : HasTree st) (found : slice_get st.pages position.block ≡ Some page)
     (on : IsOnDescent st start (aim_of aim) clear to position) (whole : clear ≡ true → page.split ≡ false) (few : length st.pages ≤ most) where
   at_block : page.block ≡ position.block
-  at_block = (stored_page st.limits position.block st.pages page h.stored found).block_is
+  at_block = (stored_page st.format position.block st.pages page h.stored found).block_is
 
   found_there : slice_get st.pages page.block ≡ Some page
   found_there = subst (λ (b : ℕ). slice_get st.pages b ≡ Some page) (sym at_block) found
@@ -69,7 +69,7 @@ module _ (st : State) (start : ℕ) (clear : Bool) (aim : SearchKey) (to most : 
           let c = subst (λ (k : ℕ). HasCover st k (aim_of aim) page.block) is (covers alive within) in
           let w = covered st h.tree (suc level) (aim_of aim) page.block c in
           let above : 0 < page.block = (h.tree.is.in_use (suc level) page.block w.0 w.1).0 in
-          internal_links page level (stored_page st.limits position.block st.pages page h.stored found).storable.admitted ((arrival alive).level_is ∙ is) above
+          internal_links page level (stored_page st.format position.block st.pages page h.stored found).storable.admitted ((arrival alive).level_is ∙ is) above
 
       by : (level : ℕ) → position.level ≡ level → (r : Option Position) → DownTo page position aim r → LeadsToNext st start (aim_of aim) clear to position (going r)
       by zero is r down = absurd (omega arith)
@@ -91,7 +91,7 @@ module _ (st : State) (start : ℕ) (clear : Bool) (aim : SearchKey) (to most : 
 module _ (st : State) (aim : SearchKey) (to : ℕ) (page : Page) (position : Position) (h : HasTree st) (whole : NoneIsIncomplete st.pages) (found : slice_get st.pages position.block ≡ Some page)
     (cover : HasCover st position.level (aim_of aim) position.block) where
   cover_block : page.block ≡ position.block
-  cover_block = (stored_page st.limits position.block st.pages page h.stored found).block_is
+  cover_block = (stored_page st.format position.block st.pages page h.stored found).block_is
 
   cover_found : slice_get st.pages page.block ≡ Some page
   cover_found = subst (λ (b : ℕ). slice_get st.pages b ≡ Some page) (sym cover_block) found
@@ -119,7 +119,7 @@ module _ (st : State) (aim : SearchKey) (to : ℕ) (page : Page) (position : Pos
   links_there level is =
       let w = covered st h.tree position.level (aim_of aim) position.block cover in
       let above : 0 < page.block = subst (λ (b : ℕ). 0 < b) (sym cover_block) (h.tree.is.in_use position.level position.block w.0 w.1).0 in
-      internal_links page level (stored_page st.limits position.block st.pages page h.stored found).storable.admitted
+      internal_links page level (stored_page st.format position.block st.pages page h.stored found).storable.admitted
       (sym (ap (λ (n : Node). n.level) here) ∙ on_level st h.tree position.level position.block w.0 w.1 ∙ is) above
 
   pub leads_straight_down : to < position.level → (r : Option Position) → DownTo page position aim r → LeadsStraight st (aim_of aim) to position (going r)

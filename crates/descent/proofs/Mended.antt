@@ -48,9 +48,9 @@ fresh_apart st new block page fresh found in_use same =
 pub record RightMay (st : State) (block new : ℕ) (right : Option Page) : Type 0 where
   pub apart : IsApartFrom block (mended_to new right)
   pub apart_new : IsApartFrom new (mended_to new right)
-  pub may : AreActable st.limits (length st.pages) (mended_to new right)
+  pub may : AreActable st.format (length st.pages) (mended_to new right)
 
-pub right_may : (st : State) (session block new : ℕ) (link : Option ℕ) (right : Option Page) → length st.pages ≤ st.limits.pages → IsFresh st new → IsBlock new
+pub right_may : (st : State) (session block new : ℕ) (link : Option ℕ) (right : Option Page) → length st.pages ≤ st.format.pages → IsFresh st new → IsBlock new
     → RightIsMendable st link → link ≢ Some block → RightIsStored st session link right → RightMay st block new right
 right_may st session block new None None few fresh is_block mendable apart stored = record { apart = tt; apart_new = tt; may = tt }
 right_may st session block new None (Some page) few fresh is_block mendable apart stored = absurd stored
@@ -62,7 +62,7 @@ right_may st session block new (Some r) (Some page) few fresh is_block mendable 
       apart = (λ same. apart (ap Some (sym at_r ∙ same)), tt);
       apart_new = (λ same. fresh_apart st new r mendable.page fresh mendable.found mendable.mends.in_use (sym at_r ∙ same), tt);
       may = (
-        writable st.limits (record page { layout = Two; left = Some new }) refl
+        writable st.format (record page { layout = Two; left = Some new }) refl
             (mended_page (renewed page) new (renewed_is_page page stored.0.storable.admitted) (record { no_meta = stored.1.no_meta; in_use = stored.1.in_use }) is_block) stored.0.storable.few,
         (omega (arith, at_r, used), omega (arith, at_r, used, few)),
         tt,

@@ -182,7 +182,7 @@ none_below st (suc n) none = rw (none n (omega arith), none_below st n (λ b lt.
 -- no block is free
 pub full_cause : (st : State) (first third : Backing) (session : ℕ) (images : List ℕ) (frames : ℕ) (splits : Bool) → IsFull st
     → HasCause (causes_of_working st first third session images frames true splits) IndexFull
-full_cause st first third session images frames splits full = rw (le-leb st.limits.pages (length st.pages) full.used, none_below st (length st.pages) full.none) refl
+full_cause st first third session images frames splits full = rw (le-leb st.format.pages (length st.pages) full.used, none_below st (length st.pages) full.none) refl
 
 -- the first number that is so, if none below is
 first_is : (is : ℕ → Bool) (n at : ℕ) → ((b : ℕ) → b < at → is b ≡ false) → at ≤ n → (at < n → is at ≡ true) → first_below is n ≡ at

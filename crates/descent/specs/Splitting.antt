@@ -25,7 +25,7 @@ abbrev pub RightIsStored : State → ℕ → Option ℕ → Option Page → Type
 RightIsStored st session None None = Unit {0}
 RightIsStored st session None (Some page) = ⊥
 RightIsStored st session (Some block) None = ⊥
-RightIsStored st session (Some block) (Some page) = IsStored st.limits block page
+RightIsStored st session (Some block) (Some page) = IsStored st.format block page
     × MayBeMended page × (is_held_by_another st.table session block Exclusive ≡ false)
 
 -- ... and as it is

@@ -22,7 +22,7 @@ pub fn read_shared<S: PageStore>(store: &mut S, session: Session, block: u32) ->
     ensures has { OnOk result (S.has store.new block) }
     ensures used { OnOk result (block < length (S.state store.old).pages) }
     ensures inside { OnOk result (length (S.state store.old).pages ≤
-        (S.state store.old).limits.pages) }
+        (S.state store.old).format.pages) }
     ensures alive { OnOk result
         ((S.backing store.new).stopped ≡ true → (S.backing store.old).stopped ≡ true) }
     ensures room { KeepsRoom (S.state store.old) (S.backing store.old) (S.backing store.new) }
@@ -76,10 +76,10 @@ pub fn read_exclusive<S: PageStore>(
     ensures state { S.state store.new ≡ S.state store.old }
     ensures page { (S.backing store.new).honest ≡ true
         → IfOk result (λ p. slice_get (S.state store.old).pages block ≡ Some p) }
-    ensures stored { IfOk result (IsStored (S.state store.old).limits block) }
+    ensures stored { IfOk result (IsStored (S.state store.old).format block) }
     ensures used { OnOk result (block < length (S.state store.old).pages) }
     ensures inside { OnOk result (length (S.state store.old).pages ≤
-        (S.state store.old).limits.pages) }
+        (S.state store.old).format.pages) }
     ensures free { OnOk result
         (is_held_by_another (S.state store.old).table session block Mode.Exclusive ≡ false) }
     ensures alive { OnOk result
@@ -116,12 +116,12 @@ pub fn read_both<S: PageStore>(
     ensures pages { (S.backing store.new).honest ≡ true
         → OnOk result ((slice_get (S.state store.old).pages first ≡ Some page.new)
         × (slice_get (S.state store.old).pages second ≡ Some other.new)) }
-    ensures stored { OnOk result ((IsStored (S.state store.old).limits first page.new)
-        × (IsStored (S.state store.old).limits second other.new)) }
+    ensures stored { OnOk result ((IsStored (S.state store.old).format first page.new)
+        × (IsStored (S.state store.old).format second other.new)) }
     ensures used { OnOk result ((first < length (S.state store.old).pages)
         × (second < length (S.state store.old).pages)) }
     ensures inside { OnOk result (length (S.state store.old).pages ≤
-        (S.state store.old).limits.pages) }
+        (S.state store.old).format.pages) }
     ensures free { OnOk result
         ((is_held_by_another (S.state store.old).table session first Mode.Exclusive ≡ false)
         × (is_held_by_another (S.state store.old).table session second Mode.Exclusive ≡ false)) }

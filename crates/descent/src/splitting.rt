@@ -94,12 +94,12 @@ pub fn act_on<S: PageStore>(store: &mut S, pages: &[Page]) -> Result<u64, Fault>
     requires few { length pages.now ≤ 4 }
     ensures steps { Continues S.follows store.old store.new }
     ensures may { OnOk result
-        (AreActable (S.state store.old).limits (length (S.state store.old).pages) pages.now) }
+        (AreActable (S.state store.old).format (length (S.state store.old).pages) pages.now) }
     ensures done { OnOk result (S.state store.new ≡ after_act pages.now (S.state store.old)) }
     ensures number { IfOk result (λ n. n ≡ suc (S.state store.old).acts) }
     ensures refused { OnErr result (S.state store.new ≡ S.state store.old) }
     ensures faults { IfErr result (HasCause causes_of_writing_any) }
-    ensures cause { AreActable (S.state store.old).limits
+    ensures cause { AreActable (S.state store.old).format
         (length (S.state store.old).pages) pages.now
         → IfErr result (HasCause (causes_of_acting (S.state store.old) (S.backing store.old)
         (S.backing store.new) pages.now)) }

@@ -72,9 +72,9 @@ fn write_over(bytes: &mut [u8], pieces: &[Piece])
     ensures { bytes.new ≡ written_over bytes.old (writes_of pieces.now) }
 {
     let mut rest = pieces;
-    while let [piece, behind @ ..] = rest {
+    while let [piece, later @ ..] = rest {
         lay(bytes, piece.at, &piece.bytes);
-        rest = behind;
+        rest = later;
     }
 }
 
@@ -84,9 +84,9 @@ fn tear_over(bytes: &mut [u8], pieces: &[Piece])
     ensures { bytes.new ≡ torn_over bytes.old (writes_of pieces.now) }
 {
     let mut rest = pieces;
-    while let [piece, behind @ ..] = rest {
+    while let [piece, later @ ..] = rest {
         tear(bytes, piece.at, &piece.bytes);
-        rest = behind;
+        rest = later;
     }
 }
 

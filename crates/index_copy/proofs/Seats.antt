@@ -7,7 +7,7 @@ use Rattle.index_model.specs.declared.entry.Entry.{Entry}
 use Rattle.access_method.specs.Tokens.{seat_for, seat_of, sitter_of}
 use Rattle.access_method.specs.declared.index.Index.{Index}
 use Rattle.access_method.specs.declared.token.ScanToken.{ScanToken}
-use Rattle.access_method.specs.declared.token.Seat.{Seat}
+use Rattle.access_method.specs.declared.token.OpenScan.{OpenScan}
 use Rattle.access_method.specs.declared.token.Sitter.{Sitter}
 use Rattle.access_method.specs.declared.token.Sitter.TheVariants.{Scan as SitsToScan}
 use Rattle.index_model.specs.declared.fault.Fault.{Fault}
@@ -24,7 +24,7 @@ set_back {X = X} (y ∷ ys) zero x h = let same : x ≡ y = cc in ap (λ (z : X)
 set_back {X = X} (y ∷ ys) (suc i) x h = ap (λ (l : List X). y ∷ l) (set_back ys i x h)
 
 -- the seat that a scan of this token sits on
-abbrev pub sits : ScanToken → Bool → Seat
+abbrev pub sits : ScanToken → Bool → OpenScan
 sits token is_refused = record { number = token.number; is_refused = is_refused }
 
 abbrev sitter : ScanToken → Bool → Option Sitter
@@ -71,14 +71,14 @@ module _ {S : Type 0} (token : ScanToken) (old begun : Index S) (new_token : IsN
       ∙ set_twice old.seats token.session (sitter token is.0) None ∙ set_back old.seats token.session None new_token.was_free
 
 -- a scan that is refused then, was open before
-pub becomes_then : {S : Type 0} (token : ScanToken) (seat : Option Seat) (old mid new : Index S) → SameTokens old mid → SeatBecomes token seat mid new → SeatBecomes token seat old new
+pub becomes_then : {S : Type 0} (token : ScanToken) (seat : Option OpenScan) (old mid new : Index S) → SameTokens old mid → SeatBecomes token seat mid new → SeatBecomes token seat old new
 becomes_then token seat old mid new same becomes = record {
   given_is = becomes.given_is ∙ same.given_is;
   seats_is = becomes.seats_is ∙ ap (λ (seats : List (Option Sitter)). slice_set seats token.session (sitter_of seat)) same.seats_is;
 }
 
 -- a seat stays if tokens do
-pub seat_stays : {S : Type 0} (token : ScanToken) (seat : Option Seat) (old new : Index S) → SameTokens old new → seat_of old.seats token ≡ seat → seat_of new.seats token ≡ seat
+pub seat_stays : {S : Type 0} (token : ScanToken) (seat : Option OpenScan) (old new : Index S) → SameTokens old new → seat_of old.seats token ≡ seat → seat_of new.seats token ≡ seat
 seat_stays token seat old new same was = ap (λ (seats : List (Option Sitter)). seat_of seats token) same.seats_is ∙ was
 
 -- tokens stay if a scan gives an entry, or has given all

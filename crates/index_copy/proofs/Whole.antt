@@ -26,18 +26,18 @@ use Rattle.page_action.specs.Causes.{with_row}
 use Rattle.access_method.specs.Indexes.{has_entry}
 
 -- an index that began without entries has those that came; so has what a crash leaves of it once it is closed
-pub left_whole : {D : Type 0} (d : DeviceGhosts D) (h : Ghosts (Store D d)) (limits : Format) (pages : List Page) (comes : Entry → Bool) (opened filled : Index (Store D d)) (device : D) (actions : ℕ)
-    → ((e : Entry) → entry_on_live_leaf pages e ≡ false) → IndexBegins d h limits pages opened
+pub left_whole : {D : Type 0} (d : DeviceGhosts D) (h : Ghosts (Store D d)) (format : Format) (pages : List Page) (comes : Entry → Bool) (opened filled : Index (Store D d)) (device : D) (actions : ℕ)
+    → ((e : Entry) → entry_on_live_leaf pages e ≡ false) → IndexBegins d h format pages opened
     → ForEachIndexHistory h opened filled (FitsOn h opened filled) → ForEachIndexHistory h opened filled (λ start history calls. Gains h comes opened.store filled.store)
-    → (h.backing filled.store).honest ≡ true → (state_of d filled.store).limits ≡ limits → actions ≡ (h.state filled.store).acts
+    → (h.backing filled.store).honest ≡ true → (state_of d filled.store).format ≡ format → actions ≡ (h.state filled.store).acts
     → StaysOnDevice d h actions filled device → d.is_honest device ≡ true
-    → (image : List ℕ) → MayCrashTo (d.trace device).now image → IsIndexOf limits comes image
-left_whole d h limits pages comes opened filled device actions empty begins goes gains honest limits_are number stands honest_then image may =
+    → (image : List ℕ) → MayCrashTo (d.trace device).now image → IsIndexOf format comes image
+left_whole d h format pages comes opened filled device actions empty begins goes gains honest format_is number stands honest_then image may =
     let start : Entry → Bool = entry_on_live_leaf pages in
     let more = goes honest start [] [] begins.fits in
     let history : List Action = more.then_history in
-    let left : IsIndexAfterPrefix limits start history actions image =
-    subst (λ (l : Format). IsIndexAfterPrefix l start history actions image) limits_are (stands honest_then start history more.then_calls more.fits (more.keeps begins.keeps) image may) in
+    let left : IsIndexAfterPrefix format start history actions image =
+    subst (λ (l : Format). IsIndexAfterPrefix l start history actions image) format_is (stands honest_then start history more.then_calls more.fits (more.keeps begins.keeps) image may) in
     let count : (h.state filled.store).acts ≡ length history = more.fits.explains.count in
     let from : actions ≤ left.part = left.from in
     let to : left.part ≤ length history = left.to in
@@ -52,13 +52,13 @@ left_whole d h limits pages comes opened filled device actions empty begins goes
     }
 
 -- an empty index that refused an entry for its key had it from another one
-pub no_copy_for : {S D : Type 0} (g : Ghosts S) (d : DeviceGhosts D) (h : Ghosts (Store D d)) (from : S) (limits : Format) (pages : List Page)
+pub no_copy_for : {S D : Type 0} (g : Ghosts S) (d : DeviceGhosts D) (h : Ghosts (Store D d)) (from : S) (format : Format) (pages : List Page)
     (opened filled : Index (Store D d)) (why : NotCopied)
-    → ((e : Entry) → entry_on_live_leaf pages e ≡ false) → IndexBegins d h limits pages opened → (h.backing filled.store).honest ≡ true
+    → ((e : Entry) → entry_on_live_leaf pages e ≡ false) → IndexBegins d h format pages opened → (h.backing filled.store).honest ≡ true
     → IsNotCopied g h from opened filled why → IsNoCopyFor (has_entry g from) (Stopped why)
-no_copy_for g d h from limits pages opened filled (NotGiven fault) empty begins honest is = tt
-no_copy_for g d h from limits pages opened filled TooMany empty begins honest is = tt
-no_copy_for g d h from limits pages opened filled (NotPut fault) empty begins honest is = λ row same.
+no_copy_for g d h from format pages opened filled (NotGiven fault) empty begins honest is = tt
+no_copy_for g d h from format pages opened filled TooMany empty begins honest is = tt
+no_copy_for g d h from format pages opened filled (NotPut fault) empty begins honest is = λ row same.
     let twice = is honest (entry_on_live_leaf pages) [] [] begins.fits row same in
     record {
       entry = twice.entry;

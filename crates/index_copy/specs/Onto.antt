@@ -17,17 +17,17 @@ use Rattle.index_copy.specs.declared.copying.NotCopied.TheVariants.{NotGiven, No
 use Rattle.index_copy.specs.declared.onto.NoCopy.{NoCopy}
 use Rattle.index_copy.specs.declared.onto.NoCopy.TheVariants.{NotOpened, Stopped, NotClosed}
 
--- the bytes are an index of these limits, whose pages are a B-link tree with these entries and no other
-pub record IsIndexOf (limits : Format) (is_there : Entry → Bool) (image : List ℕ) : Type 0 where
+-- the bytes are an index of this format, whose pages are a B-link tree with these entries and no other
+pub record IsIndexOf (format : Format) (is_there : Entry → Bool) (image : List ℕ) : Type 0 where
   pub pages : List Page
-  pub index : HasIndex limits pages image
-  pub tree : IsTreeFor limits pages
+  pub index : HasIndex format pages image
+  pub tree : IsTreeFor format pages
   pub contents : (e : Entry) → entry_on_live_leaf pages e ≡ is_there e
 
 -- so many entries there are, and whatever a crash leaves of the device now is an index of them
-pub record IsCopyOf {D : Type 0} (d : DeviceGhosts D) (limits : Format) (is_there : Entry → Bool) (count : ℕ) (device : D) : Type 0 where
+pub record IsCopyOf {D : Type 0} (d : DeviceGhosts D) (format : Format) (is_there : Entry → Bool) (count : ℕ) (device : D) : Type 0 where
   pub many : AreSoMany is_there count
-  pub leaves : (image : List ℕ) → MayCrashTo (d.trace device).now image → IsIndexOf limits is_there image
+  pub leaves : (image : List ℕ) → MayCrashTo (d.trace device).now image → IsIndexOf format is_there image
 
 -- if one of these entries was refused because its key was there with a row, one of them has a key that
 -- another has too, with this row

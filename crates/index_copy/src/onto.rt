@@ -72,12 +72,12 @@ pub fn copy_onto<S: PageStore, D: Device, P: Progress>(
     ensures rests { ForEachIndexHistory S.PageStore from.old from.new
         (Rests S.PageStore from.old from.new) }
     ensures from_tokens { (t : TheToken) → seat_of from.new.seats t ≡ seat_of from.old.seats t }
-    ensures holds { IfOk result.copied (λ count. (limits : Format)
-        → CrashesToEmpty limits (D.trace device).now → IsTrue (D.is_honest result.device)
+    ensures holds { IfOk result.copied (λ count. (format : Format)
+        → CrashesToEmpty format (D.trace device).now → IsTrue (D.is_honest result.device)
         → ForEachIndexHistory S.PageStore from.old from.new (λ start history calls.
-        IsCopyOf D.Device limits (has_entry S.PageStore from.old.store) count result.device)) }
-    ensures refused { IfErr result.copied (λ no_copy. (limits : Format)
-        → CrashesToEmpty limits (D.trace device).now → IsTrue (D.is_honest result.device)
+        IsCopyOf D.Device format (has_entry S.PageStore from.old.store) count result.device)) }
+    ensures refused { IfErr result.copied (λ no_copy. (format : Format)
+        → CrashesToEmpty format (D.trace device).now → IsTrue (D.is_honest result.device)
         → ForEachIndexHistory S.PageStore from.old from.new (λ start history calls.
         IsNoCopyFor (has_entry S.PageStore from.old.store) no_copy)) }
 {

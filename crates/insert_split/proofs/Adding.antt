@@ -71,17 +71,17 @@ not_the_leaf st session other block order held differ alone =
     true≢false (sym (any_excluded (holding_of st.table other).latches block Exclusive alone) ∙ free)
 
 -- how many images and frames a leaf takes that is full, or isn't, and whether a block
-pub full_is : (st : State) (block : ℕ) (page : Page) → slice_get st.pages block ≡ Some page → st.limits.items ≤ length (entries_of page.items)
+pub full_is : (st : State) (block : ℕ) (page : Page) → slice_get st.pages block ≡ Some page → st.format.items ≤ length (entries_of page.items)
     → (images_at st (Coming (Holds block)) ≡ block ∷ blocks_halved st page.right)
     × (frames_at st (Coming (Holds block)) ≡ length (blocks_halved st page.right)) × (takes_block_at st (Coming (Holds block)) ≡ true)
 full_is st block page found le =
-    let full = le-leb st.limits.items (length (entries_of page.items)) le in
+    let full = le-leb st.format.items (length (entries_of page.items)) le in
     (rw (found, full) refl, rw (found, full) refl, rw (found, full) refl)
 
-pub roomy_is : (st : State) (block : ℕ) (page : Page) → slice_get st.pages block ≡ Some page → length (entries_of page.items) < st.limits.items
+pub roomy_is : (st : State) (block : ℕ) (page : Page) → slice_get st.pages block ≡ Some page → length (entries_of page.items) < st.format.items
     → (images_at st (Coming (Holds block)) ≡ block ∷ []) × (frames_at st (Coming (Holds block)) ≡ 0) × (takes_block_at st (Coming (Holds block)) ≡ false)
 roomy_is st block page found lt =
-    let roomy = lt-leb st.limits.items (length (entries_of page.items)) lt in
+    let roomy = lt-leb st.format.items (length (entries_of page.items)) lt in
     (rw (found, roomy) refl, rw (found, roomy) refl, rw (found, roomy) refl)
 
 pub holding_cause : (st : State) (old new : Backing) (op : InsertOp) (block : ℕ) (images : List ℕ) (frames : ℕ) (takes : Bool) (fault : Fault) → op.at ≡ Coming (Holds block)
@@ -110,7 +110,7 @@ pub puts : {S : Type 0} (g : Ghosts S) (op : InsertOp) (old mid new : S) (block 
     → Continues g.follows old new → g.state mid ≡ g.state old → (g.backing old).stopped ≡ false → op.at ≡ Coming (Holds block) → page.block ≡ block
     → ((g.backing new).honest ≡ true → slice_get (g.state old).pages block ≡ Some page)
     → (g.backing old).failures ≤ (g.backing mid).failures → ((g.backing mid).stopped ≡ true → (g.backing old).stopped ≡ true) → (g.backing mid).promised ≡ (g.backing old).promised
-    → is_among (entries_of page.items) op.entry ≡ false → KeyMayEnter (g.state old) page op.entry → length (entries_of page.items) < (g.state old).limits.items
+    → is_among (entries_of page.items) op.entry ≡ false → KeyMayEnter (g.state old) page op.entry → length (entries_of page.items) < (g.state old).format.items
     → IfOk result (PutsEntry page op.entry (g.state mid) (g.state new)) → OnErr result (g.state new ≡ g.state mid)
     → (has_pin (pinned_blocks (g.state mid).table) page.block ≡ true
     → IfErr result (HasCause (causes_of_working (g.state mid) (g.backing mid) (g.backing new) op.session (page.block ∷ []) 0 false false)))
@@ -141,7 +141,7 @@ puts g op old mid new block page (Ok (Added action unfinished)) steps same alive
         block_is = put.block_is;
         cycle_is = put.cycle_is;
         alone = alone;
-        may = subst (λ (s : State). AreActable s.limits (length s.pages) (put.after ∷ [])) same put.may;
+        may = subst (λ (s : State). AreActable s.format (length s.pages) (put.after ∷ [])) same put.may;
       } in
       let lasts = putting_lasts st fits.start op.entry page put.after order.tree is_put in
       let moves = putting_flags st fits.start op.entry page put.after order.tree is_put in
@@ -211,7 +211,7 @@ apart_rows e r differ = elim (cases_Bool (same_entry (with_row e r) e)) [
 
 -- why the leaf gives no place: the entry is there, or on a unique index one of its key
 pub no_place : (st : State) (old new : Backing) (op : InsertOp) (block : ℕ) (page : Page) (fault : Fault) → IsInOrder st → op.at ≡ Coming (Holds block) → InsertInvariant st op
-    → slice_get st.pages block ≡ Some page → page.block ≡ block → IsPage page → PlaceRefused page op.entry st.limits.unique fault
+    → slice_get st.pages block ≡ Some page → page.block ≡ block → IsPage page → PlaceRefused page op.entry st.format.unique fault
     → HasCause (causes_of_inserting st old new op.session op.entry op.at) fault
 no_place st old new op block page fault order at_is fits found block_is admitted (inl damaged) =
     let there = leaf_there st op block at_is fits in

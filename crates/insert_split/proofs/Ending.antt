@@ -52,7 +52,7 @@ finish_goes g before splits then_splits old new at_is alive h = record {
   stopped = λ halted. runs_no_more (g.backing old).stopped alive halted;
   less = λ honest is acts.
       subst (λ (a : InsertAt).
-      finish_left (g.state new).limits.pages (g.state new).pages then_splits < insert_left (g.state old).limits.pages (g.state old).pages a) (sym at_is) (h.less honest refl acts);
+      finish_left (g.state new).format.pages (g.state new).pages then_splits < insert_left (g.state old).format.pages (g.state old).pages a) (sym at_is) (h.less honest refl acts);
   stepped = λ honest order fits.
       let there = finishing_there (g.state old) before splits at_is fits in
       let on = h.stepped honest order there.1 in
@@ -93,8 +93,8 @@ finish_done g before after splits then_splits step old new at_is alive h on = by
       refused = tt;
       stopped = λ halted. runs_no_more (g.backing old).stopped alive halted;
       less = λ honest going acts.
-          subst (λ (a : InsertAt). insert_left (g.state new).limits.pages (g.state new).pages (Coming Start) < insert_left (g.state old).limits.pages (g.state old).pages a) (sym at_is)
-          (let over = h.over honest refl acts in let l = ap (λ (x : Format). x.pages) h.kept.limits in rw l (omega (arith, over)));
+          subst (λ (a : InsertAt). insert_left (g.state new).format.pages (g.state new).pages (Coming Start) < insert_left (g.state old).format.pages (g.state old).pages a) (sym at_is)
+          (let over = h.over honest refl acts in let l = ap (λ (x : Format). x.pages) h.kept.format in rw l (omega (arith, over)));
       stepped = λ honest order fits.
           let there = finishing_there (g.state old) before splits at_is fits in
           let last = h.stepped honest order there.1 in

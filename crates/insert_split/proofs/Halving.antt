@@ -19,12 +19,12 @@ pub halves_may : (st : State) (session : ℕ) (e : Entry) (page left half : Page
     → length (entries_of left.items) ≡ left_count (length (entries_of page.items))
     → length (entries_of left.items) + length (entries_of half.items) ≡ length (entries_of page.items) + 1
     → left.block ≡ page.block → IsFresh st half.block → IsBlock half.block → RightIsStored st session page.right right
-    → AreActable st.limits (length st.pages) (left ∷ half ∷ mended_to half.block right)
+    → AreActable st.format (length st.pages) (left ∷ half ∷ mended_to half.block right)
 halves_may st session e page left half right fits may some left_new half_new left_page half_page left_leaf half_leaf kept moved left_block fresh block stored = (
-  writable st.limits left left_new left_page few_left,
-  (omega (arith, used, left_block), subst (λ (b : ℕ). b < st.limits.pages) (sym left_block) (omega (arith, used, fits.few))),
+  writable st.format left left_new left_page few_left,
+  (omega (arith, used, left_block), subst (λ (b : ℕ). b < st.format.pages) (sym left_block) (omega (arith, used, fits.few))),
   (λ same. apart_new (sym left_block ∙ sym same), subst (λ (b : ℕ). IsApartFrom b (mended_to half.block right)) (sym left_block) beside.apart),
-  (writable st.limits half half_new half_page few_half, (fresh.within, fresh.inside), beside.apart_new, beside.may),
+  (writable st.format half half_new half_page few_half, (fresh.within, fresh.inside), beside.apart_new, beside.may),
 )
   where
     used : page.block < length st.pages
@@ -36,14 +36,14 @@ halves_may st session e page left half right fits may some left_new half_new lef
         live_not_deleted : Live ≡ Deleted → ⊥
         live_not_deleted h = cc
 
-    all : length (entries_of page.items) ≤ st.limits.items
-    all = subst (λ (n : ℕ). n ≤ st.limits.items) (leaf_count page.items may.leaf) fits.stored.storable.few
+    all : length (entries_of page.items) ≤ st.format.items
+    all = subst (λ (n : ℕ). n ≤ st.format.items) (leaf_count page.items may.leaf) fits.stored.storable.few
 
-    few_left : count_of left.items ≤ st.limits.items
-    few_left = subst (λ (n : ℕ). n ≤ st.limits.items) (sym (leaf_count left.items left_leaf)) (omega (arith, kept, all, some))
+    few_left : count_of left.items ≤ st.format.items
+    few_left = subst (λ (n : ℕ). n ≤ st.format.items) (sym (leaf_count left.items left_leaf)) (omega (arith, kept, all, some))
 
-    few_half : count_of half.items ≤ st.limits.items
-    few_half = subst (λ (n : ℕ). n ≤ st.limits.items) (sym (leaf_count half.items half_leaf)) (omega (arith, kept, moved, all, some))
+    few_half : count_of half.items ≤ st.format.items
+    few_half = subst (λ (n : ℕ). n ≤ st.format.items) (sym (leaf_count half.items half_leaf)) (omega (arith, kept, moved, all, some))
 
     beside : RightMay st page.block half.block right
     beside = right_may st session page.block half.block page.right right fits.few fresh block fits.mendable fits.apart stored
@@ -63,10 +63,10 @@ frames_beside st at beside blocks is pin =
     subst (λ (bs : List ℕ). count_apart (bs ++ pinned_blocks st.table) ≤ length beside + count_apart (pinned_blocks st.table)) (sym is) (apart_pinned at beside (pinned_blocks st.table) pin)
 
 -- a leaf with one entry more
-pub put_may : (limits : Format) (used : ℕ) (page after : Page) → IsStored limits page.block page → page.block < used → used ≤ limits.pages → after.layout ≡ Two → IsPage after → HasEntries after.items
-    → length (entries_of after.items) ≤ limits.items → after.block ≡ page.block → AreActable limits used (after ∷ [])
-put_may limits used page after stored in_use inside new admitted leaf few block_is = (
-  writable limits after new admitted (subst (λ (n : ℕ). n ≤ limits.items) (sym (leaf_count after.items leaf)) few),
+pub put_may : (format : Format) (used : ℕ) (page after : Page) → IsStored format page.block page → page.block < used → used ≤ format.pages → after.layout ≡ Two → IsPage after → HasEntries after.items
+    → length (entries_of after.items) ≤ format.items → after.block ≡ page.block → AreActable format used (after ∷ [])
+put_may format used page after stored in_use inside new admitted leaf few block_is = (
+  writable format after new admitted (subst (λ (n : ℕ). n ≤ format.items) (sym (leaf_count after.items leaf)) few),
   (omega (arith, block_is, in_use), omega (arith, block_is, in_use, inside)),
   tt,
   tt,

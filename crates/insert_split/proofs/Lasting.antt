@@ -69,15 +69,15 @@ undisturbed old new op rely fits = record {
 pub bounded : FreshInsertsAreBounded
 bounded most pages few = omega arith
 
-left_few : (st : State) (session start : ℕ) (e : Entry) (at : InsertAt) → HasTree st → st.limits.pages ≤ 65536 → InsertStands st session start e at
-    → insert_left st.limits.pages st.pages at < 4398046511104
+left_few : (st : State) (session start : ℕ) (e : Entry) (at : InsertAt) → HasTree st → st.format.pages ≤ 65536 → InsertStands st session start e at
+    → insert_left st.format.pages st.pages at < 4398046511104
 left_few st session start e (Coming Start) has few stands = omega arith
 left_few st session start e (Coming (At position)) has few stands =
     let low = low_level st start position.level (entry_aim e) true position.block has stands.1.place in
-    let short = walk_is_long st.limits.pages position (omega arith) in
+    let short = walk_is_long st.format.pages position (omega arith) in
     omega arith
 left_few st session start e (Coming (Holds block)) has few stands = omega arith
-left_few st session start e (Finishing op) has few stands = (let left = finish_bounded st op st.limits.pages has stands.1 in omega arith)
+left_few st session start e (Finishing op) has few stands = (let left = finish_bounded st op st.format.pages has stands.1 in omega arith)
 
 pub bounded_at_each_moment : InsertsAreBounded
 bounded_at_each_moment st op order few fits = left_few st op.session fits.start op.entry op.at order.tree few fits.stands

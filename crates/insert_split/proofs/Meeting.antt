@@ -81,11 +81,11 @@ meets g before after old new page position (Ok Going) steps same alive at_is h l
     after_at : after.at ≡ Finishing op
     after_at = ap (λ (o : InsertOp). o.at) h.finishes.after_is
 
-    less : slice_get st.pages position.block ≡ Some page → insert_left st.limits.pages st.pages after.at < insert_left st.limits.pages st.pages before.at
+    less : slice_get st.pages position.block ≡ Some page → insert_left st.format.pages st.pages after.at < insert_left st.format.pages st.pages before.at
     less there =
-        let left = one_target_left st.limits.pages st.pages target op page h.finishes.target_is h.finishes.below h.finishes.at (at_target there) incomplete h.high_is in
-        subst (λ (a : InsertAt). insert_left st.limits.pages st.pages a < insert_left st.limits.pages st.pages before.at) (sym after_at)
-        (subst (λ (a : InsertAt). finish_left st.limits.pages st.pages op < insert_left st.limits.pages st.pages a) (sym at_is) (omega (arith, left)))
+        let left = one_target_left st.format.pages st.pages target op page h.finishes.target_is h.finishes.below h.finishes.at (at_target there) incomplete h.high_is in
+        subst (λ (a : InsertAt). insert_left st.format.pages st.pages a < insert_left st.format.pages st.pages before.at) (sym after_at)
+        (subst (λ (a : InsertAt). finish_left st.format.pages st.pages op < insert_left st.format.pages st.pages a) (sym at_is) (omega (arith, left)))
 
     now : slice_get st.pages position.block ≡ Some page → IsInOrder st → InsertInvariant st before → StandsNow st before after
     now there order fits =

@@ -14,7 +14,7 @@ straight_takes_none st op order fits position room = by op.at refl position
     by (Coming (At on)) is position = (refl, refl)
     by (Coming (Holds block)) is position =
         let leaf = (leaf_there st op block is fits).1 in
-        let block_is = (stored_page st.limits block st.pages leaf.page order.tree.stored leaf.found).block_is in
+        let block_is = (stored_page st.format block st.pages leaf.page order.tree.stored leaf.found).block_is in
         let covers = covers_there st fits.start op.entry block leaf.page order.tree block_is leaf.found leaf in
         let few = room leaf.page (subst (λ (b : ℕ). slice_get st.pages b ≡ Some leaf.page) (sym block_is) leaf.found) covers in
         ((roomy_is st block leaf.page leaf.found few).2, refl)

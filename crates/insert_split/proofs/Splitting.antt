@@ -70,9 +70,9 @@ flag_other b c was differ = rw (ne_eqb b c differ) refl
 -- a step that splits the leaf
 pub splits : {S : Type 0} (g : Ghosts S) (before after : InsertOp) (old mid new : S) (block : ℕ) (page : Page) (result : Result InsertStep Fault)
     → Continues g.follows old new → g.state mid ≡ g.state old → (g.backing old).stopped ≡ false → before.at ≡ Coming (Holds block) → page.block ≡ block
-    → ((g.backing new).honest ≡ true → slice_get (g.state old).pages block ≡ Some page) → IsStored (g.state old).limits page.block page → length (g.state old).pages ≤ (g.state old).limits.pages
+    → ((g.backing new).honest ≡ true → slice_get (g.state old).pages block ≡ Some page) → IsStored (g.state old).format page.block page → length (g.state old).pages ≤ (g.state old).format.pages
     → (g.backing old).failures ≤ (g.backing mid).failures → ((g.backing mid).stopped ≡ true → (g.backing old).stopped ≡ true) → (g.backing mid).promised ≡ (g.backing old).promised
-    → is_among (entries_of page.items) before.entry ≡ false → KeyMayEnter (g.state old) page before.entry → (g.state old).limits.items ≤ length (entries_of page.items)
+    → is_among (entries_of page.items) before.entry ≡ false → KeyMayEnter (g.state old) page before.entry → (g.state old).format.items ≤ length (entries_of page.items)
     → IfOk result (λ step. step ≡ Going) → OnOk result (SplitsLeaf (g.backing new).honest page before after (g.state mid) (g.state new))
     → OnErr result (g.state new ≡ g.state mid) → OnErr result (after ≡ before)
     → ((g.backing new).honest ≡ true → HasRoom (g.state mid).table before.session → IsSplittable (g.state mid) page → has_pin (pinned_blocks (g.state mid).table) page.block ≡ true
@@ -123,7 +123,7 @@ splits g before after old mid new block page (Ok Going) steps same alive at_is b
       let others = others_held st.table before.session page.block in
       let added_to : State = after_act changed st in
       let left_there : slice_get added_to.pages page.block ≡ Some h.left = subst (λ (b : ℕ). slice_get added_to.pages b ≡ Some h.left) h.left_block
-      (pages_first st.limits (length st.pages) st.pages h.left (h.half ∷ mended_to h.half.block h.right) may (omega arith)) in
+      (pages_first st.format (length st.pages) st.pages h.left (h.half ∷ mended_to h.half.block h.right) may (omega arith)) in
       let left_live : h.left.state ≡ Live = ap (λ (n : Node). n.state) h.halves.left_is in
       let left_ground : h.left.level ≡ 0 = ap (λ (n : Node). n.level) h.halves.left_is ∙ ground in
       let place : LeadsTo added_to fits.start 0 (entry_aim before.entry) true page.block =
@@ -188,8 +188,8 @@ splits g before after old mid new block page (Ok Going) steps same alive at_is b
     now : g.state new ≡ with_table (after_act changed st) table
     now = h.state ∙ ap (λ (s : State). with_table (after_act changed s) (let_go s.table before.session page.block)) same
 
-    may : AreActable st.limits (length st.pages) changed
-    may = subst (λ (s : State). AreActable s.limits (length s.pages) changed) same h.may
+    may : AreActable st.format (length st.pages) changed
+    may = subst (λ (s : State). AreActable s.format (length s.pages) changed) same h.may
 
     right_stored : RightIsStored st before.session page.right h.right
     right_stored = subst (λ (s : State). RightIsStored s before.session page.right h.right) same h.right_stored

@@ -33,7 +33,7 @@ pub record StandsNow (st : State) (before after : InsertOp) : Type 0 where
 -- a step that reads, and goes on
 pub goes_on : {S : Type 0} (g : Ghosts S) (before after : InsertOp) (old new : S) → Continues g.follows old new → g.state new ≡ g.state old
     → after.session ≡ before.session → after.entry ≡ before.entry → (g.backing old).stopped ≡ false
-    → ((g.backing new).honest ≡ true → insert_left (g.state old).limits.pages (g.state old).pages after.at < insert_left (g.state old).limits.pages (g.state old).pages before.at)
+    → ((g.backing new).honest ≡ true → insert_left (g.state old).format.pages (g.state old).pages after.at < insert_left (g.state old).format.pages (g.state old).pages before.at)
     → ((g.backing new).honest ≡ true → IsInOrder (g.state old) → InsertInvariant (g.state old) before → StandsNow (g.state old) before after)
     → ((g.backing new).honest ≡ true → IsInOrder (g.state old) → NoneIsIncomplete (g.state old).pages → IsStraight (g.state old) before.entry before.at
     → CountsDown (g.state old) (g.state old) before after (Ok Going))
@@ -45,7 +45,7 @@ goes_on g before after old new steps same session entry alive less stands straig
   kept = one_nothing (g.state old) (g.state new) same;
   refused = tt;
   stopped = λ h. runs_no_more (g.backing old).stopped alive h;
-  less = λ honest is acts. subst (λ (st : State). insert_left st.limits.pages st.pages after.at < insert_left (g.state old).limits.pages (g.state old).pages before.at) (sym same) (less honest);
+  less = λ honest is acts. subst (λ (st : State). insert_left st.format.pages st.pages after.at < insert_left (g.state old).format.pages (g.state old).pages before.at) (sym same) (less honest);
   stepped = λ honest order fits.
       let now = stands honest order fits in
       record {

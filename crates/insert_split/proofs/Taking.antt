@@ -111,13 +111,13 @@ takes g before after old mid new page position (Ok Going) steps same backing ali
     now : g.state new ≡ with_table st table
     now = (moved refl).0 ∙ ap (λ (s : State). with_table s (pinned (latched s.table before.session page.block Exclusive) before.session page.block)) same
 
-    less_there : insert_left st.limits.pages st.pages (Coming (Holds page.block)) < insert_left st.limits.pages st.pages (Coming (At position))
+    less_there : insert_left st.format.pages st.pages (Coming (Holds page.block)) < insert_left st.format.pages st.pages (Coming (At position))
     less_there = omega arith
 
-    fewer : insert_left (g.state new).limits.pages (g.state new).pages after.at < insert_left st.limits.pages st.pages before.at
-    fewer = subst (λ (s : State). insert_left s.limits.pages s.pages after.at < insert_left st.limits.pages st.pages before.at) (sym now)
-        (subst (λ (o : InsertOp). insert_left st.limits.pages st.pages o.at < insert_left st.limits.pages st.pages before.at) (sym is)
-        (subst (λ (a : InsertAt). insert_left st.limits.pages st.pages (Coming (Holds page.block)) < insert_left st.limits.pages st.pages a) (sym at_is) less_there))
+    fewer : insert_left (g.state new).format.pages (g.state new).pages after.at < insert_left st.format.pages st.pages before.at
+    fewer = subst (λ (s : State). insert_left s.format.pages s.pages after.at < insert_left st.format.pages st.pages before.at) (sym now)
+        (subst (λ (o : InsertOp). insert_left st.format.pages st.pages o.at < insert_left st.format.pages st.pages before.at) (sym is)
+        (subst (λ (a : InsertAt). insert_left st.format.pages st.pages (Coming (Holds page.block)) < insert_left st.format.pages st.pages a) (sym at_is) less_there))
 takes g before after old mid new page position (Ok (Added action unfinished)) steps same backing alive at_is told moved stays none block_is admitted live
     whole within found ground = absurd (none action unfinished refl)
 takes g before after old mid new page position (Err fault) steps same backing alive at_is told moved stays none block_is admitted live whole within found ground =

@@ -99,7 +99,7 @@ blocks_halved st right = fresh_block st ∷ sibling right
 abbrev pub blocks_beside : State → Option Page → List ℕ
 blocks_beside st None = []
 blocks_beside st (Some page) =
-    if nat_le st.limits.items (length (entries_of page.items))
+    if nat_le st.format.items (length (entries_of page.items))
     then blocks_halved st page.right else []
 
 -- the blocks that the act of a step writes
@@ -120,7 +120,7 @@ frames_at st (Finishing op) = frames_of st op.target op.at
 abbrev pub takes_block_at : State → InsertAt → Bool
 takes_block_at st (Coming Start) = false
 takes_block_at st (Coming (At position)) = false
-takes_block_at st (Coming (Holds block)) = is_full_page st.limits.items (slice_get st.pages block)
+takes_block_at st (Coming (Holds block)) = is_full_page st.format.items (slice_get st.pages block)
 takes_block_at st (Finishing op) = takes_block_of st op.target op.at
 
 -- ... and whether it is to split the root: only to finish a split
@@ -234,8 +234,8 @@ pub record InsertSteps {S : Type 0} (g : Ghosts S) (before after : InsertOp) (ol
   pub stopped : (g.backing old).stopped ≡ true → AnswersStopped before.added result
   pub less : (g.backing new).honest ≡ true → result ≡ Ok Going
       → (g.state new).acts ≡ (g.state old).acts
-      → insert_left (g.state new).limits.pages (g.state new).pages after.at
-      < insert_left (g.state old).limits.pages (g.state old).pages before.at
+      → insert_left (g.state new).format.pages (g.state new).pages after.at
+      < insert_left (g.state old).format.pages (g.state old).pages before.at
   pub stepped : (g.backing new).honest ≡ true → IsInOrder (g.state old)
       → InsertInvariant (g.state old) before
       → InsertStepped (g.state old) (g.backing old) (g.state new) (g.backing new) before after result

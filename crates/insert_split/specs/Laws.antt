@@ -23,5 +23,5 @@ FreshInsertsAreBounded =
 -- ... and for one at each moment of its steps
 abbrev pub InsertsAreBounded : Type 0
 InsertsAreBounded =
-    (st : State) (op : InsertOp) → IsInOrder st → st.limits.pages ≤ 65536 → InsertInvariant st op
-    → insert_left st.limits.pages st.pages op.at < 4398046511104
+    (st : State) (op : InsertOp) → IsInOrder st → st.format.pages ≤ 65536 → InsertInvariant st op
+    → insert_left st.format.pages st.pages op.at < 4398046511104

@@ -32,7 +32,7 @@ IsStraight st e (Finishing op) = ⊥
 -- the leaf that covers the entry has room for one more
 abbrev pub HasRoomFor : State → Entry → Type 0
 HasRoomFor st e = (page : Page) → slice_get st.pages page.block ≡ Some page
-    → HasCover st 0 (entry_aim e) page.block → length (entries_of page.items) < st.limits.items
+    → HasCover st 0 (entry_aim e) page.block → length (entries_of page.items) < st.format.items
 
 -- the last of these steps adds the entry, and each before it leaves one fewer
 abbrev pub CountsDown : State → State → InsertOp → InsertOp → Result InsertStep Fault → Type 0

@@ -99,8 +99,8 @@ PlaceRefused page e unique fault =
 -- mended
 pub record IsSplittable (st : State) (page : Page) : Type 0 where
   pub found : slice_get st.pages page.block ≡ Some page
-  pub stored : IsStored st.limits page.block page
-  pub few : length st.pages ≤ st.limits.pages
+  pub stored : IsStored st.format page.block page
+  pub few : length st.pages ≤ st.format.pages
   pub mendable : RightIsMendable st page.right
   pub apart : page.right ≢ Some page.block
 
@@ -145,7 +145,7 @@ pub record SplitsLeaf (honest : Bool) (page : Page) (before after : InsertOp) (o
   pub free : is_held_by_another old.table before.session half.block Exclusive ≡ false
   pub right_stored : RightIsStored old before.session page.right right
   pub right_found : honest ≡ true → RightIsFound old page.right right
-  pub may : AreActable old.limits (length old.pages) (left ∷ half ∷ mended_to half.block right)
+  pub may : AreActable old.format (length old.pages) (left ∷ half ∷ mended_to half.block right)
   pub state : new ≡ with_table (after_act (left ∷ half ∷ mended_to half.block right) old)
       (unpinned (released old.table before.session page.block) before.session page.block)
   pub target : Target
@@ -161,7 +161,7 @@ pub record EntryPut (page : Page) (e : Entry) (old new : State) (action : ℕ) :
   pub node_is : node_of after ≡ with_leaf (node_of page) (entries_of after.items)
   pub block_is : after.block ≡ page.block
   pub cycle_is : after.cycle ≡ page.cycle
-  pub may : AreActable old.limits (length old.pages) (after ∷ [])
+  pub may : AreActable old.format (length old.pages) (after ∷ [])
   pub state : new ≡ after_act (after ∷ []) old
   pub number : action ≡ suc old.acts
 

@@ -112,7 +112,7 @@ impl InsertOp {
     ) -> Result<InsertStep, Fault>
         ensures all { InsertSteps S.PageStore self.old self.new store.old store.new result }
         ensures faults { IfErr result (HasCause
-            (causes_of_inserting_any (S.state store.old).limits.unique self.old.entry)) }
+            (causes_of_inserting_any (S.state store.old).format.unique self.old.entry)) }
         ensures quiet { IfLeftIncomplete result (λ fault. S.state store.new ≡ S.state store.old) }
         ensures left { IfLeftIncomplete result (HasCause causes_of_left_any) }
         ensures logged { IsRefusedRightly self.old.added result }
@@ -168,7 +168,7 @@ impl InsertOp {
         requires alive { (S.backing store.old).stopped ≡ false }
         ensures all { InsertSteps S.PageStore self.old self.new store.old store.new result }
         ensures faults { IfErr result (HasCause
-            (causes_of_inserting_any (S.state store.old).limits.unique self.old.entry)) }
+            (causes_of_inserting_any (S.state store.old).format.unique self.old.entry)) }
         ensures quiet { IfLeftIncomplete result (λ fault. S.state store.new ≡ S.state store.old) }
         ensures left { IfLeftIncomplete result (HasCause causes_of_left_any) }
     {
@@ -248,7 +248,7 @@ impl InsertOp {
         requires alive { (S.backing store.old).stopped ≡ false }
         ensures all { InsertSteps S.PageStore self.old self.new store.old store.new result }
         ensures faults { IfErr result (HasCause
-            (causes_of_inserting_any (S.state store.old).limits.unique self.old.entry)) }
+            (causes_of_inserting_any (S.state store.old).format.unique self.old.entry)) }
         ensures quiet { IfLeftIncomplete result (λ fault. S.state store.new ≡ S.state store.old) }
         ensures left { IfLeftIncomplete result (HasCause causes_of_left_any) }
     {
@@ -282,7 +282,7 @@ impl InsertOp {
         requires alive { (S.backing store.old).stopped ≡ false }
         ensures all { InsertSteps S.PageStore self.old self.new store.old store.new result }
         ensures faults { IfErr result (HasCause
-            (causes_of_inserting_any (S.state store.old).limits.unique self.old.entry)) }
+            (causes_of_inserting_any (S.state store.old).format.unique self.old.entry)) }
         ensures quiet { IfLeftIncomplete result (λ fault. S.state store.new ≡ S.state store.old) }
         ensures left { IfLeftIncomplete result (HasCause causes_of_left_any) }
         ensures logged { IsRefusedRightly self.old.added result }

@@ -84,7 +84,7 @@ fn act_on_halves<S: PageStore>(
 ) -> Result<u64, Fault>
     ensures steps { Continues S.follows store.old store.new }
     ensures may { (left half rest : P) → pages.old ≡ left ∷ half ∷ rest ∷ [] → OnOk result
-        (AreActable (S.state store.old).limits (length (S.state store.old).pages)
+        (AreActable (S.state store.old).format (length (S.state store.old).pages)
         (left ∷ half ∷ mended_to half.block (if_read is_beside rest))) }
     ensures done { (left half rest : P) → pages.old ≡ left ∷ half ∷ rest ∷ [] → OnOk result
         (S.state store.new ≡ after_act
@@ -93,7 +93,7 @@ fn act_on_halves<S: PageStore>(
     ensures refused { OnErr result (S.state store.new ≡ S.state store.old) }
     ensures faults { IfErr result (HasCause causes_of_splitting_any) }
     ensures cause { (left half rest : P) → pages.old ≡ left ∷ half ∷ rest ∷ []
-        → AreActable (S.state store.old).limits (length (S.state store.old).pages)
+        → AreActable (S.state store.old).format (length (S.state store.old).pages)
         (left ∷ half ∷ mended_to half.block (if_read is_beside rest))
         → IfErr result (HasCause (causes_of_acting (S.state store.old) (S.backing store.old)
         (S.backing store.new) (left ∷ half ∷ mended_to half.block (if_read is_beside rest)))) }
@@ -114,13 +114,13 @@ impl InsertOp {
         page: &mut Page,
         at: usize,
     ) -> Result<InsertStep, Fault>
-        requires stored { IsStored (S.state store.old).limits page.old.block page.old }
+        requires stored { IsStored (S.state store.old).format page.old.block page.old }
         requires used { page.old.block < length (S.state store.old).pages }
-        requires inside { length (S.state store.old).pages ≤ (S.state store.old).limits.pages }
+        requires inside { length (S.state store.old).pages ≤ (S.state store.old).format.pages }
         requires may { MayHold page.old self.now.entry }
         requires place { IsPlaceOf self.now.entry (entries_of page.old.items) at }
-        requires room { length (entries_of page.old.items) < (S.state store.old).limits.items }
-        requires few { (S.state store.old).limits.items ≤ 50 }
+        requires room { length (entries_of page.old.items) < (S.state store.old).format.items }
+        requires few { (S.state store.old).format.items ≤ 50 }
         ensures steps { Continues S.follows store.old store.new }
         ensures puts { IfOk result (PutsEntry page.old self.now.entry
             (S.state store.old) (S.state store.new)) }

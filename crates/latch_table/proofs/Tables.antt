@@ -143,8 +143,8 @@ others_exclude-by from (holding ∷ table) session block asked excluded =
       is_another = λ same. eqb-false from session (not-true (from == session) (and_left _ _ here)) (omega (arith, same));
       excludes_it = and_right (not (from == session)) (holding_excludes holding block asked) here;
     })
-    (λ behind.
-    let by : Excluder (suc from) table session block asked = others_exclude-by (suc from) table session block asked behind in
+    (λ in_rest.
+    let by : Excluder (suc from) table session block asked = others_exclude-by (suc from) table session block asked in_rest in
     record {
       other = suc by.other;
       is_there = omega (arith, by.is_there);

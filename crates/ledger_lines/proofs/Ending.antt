@@ -9,7 +9,7 @@ use Rattle.ledger_lines.proofs.Imports.{◌≡◌, ℕ, Result, Ok, Err, IfOk, O
 -- a closing that answered how many actions there were left all of them on the disk
 pub closed_on : {D : Type 0} (d : DeviceGhosts D) (g : Ghosts (Store D d)) (last : Index (Store D d)) (device : D) (written : Result ℕ Fault)
     → IfOk written (λ n. n ≡ (state_of d last.store).acts) → IfOk written (λ n. StaysOnDevice d g n last device)
-    → OnOk written (IsLastOver d g last device (IsAtRest g (state_of d last.store).limits)) → OnOk written (IsClosed d g last device)
+    → OnOk written (IsLastOver d g last device (IsAtRest g (state_of d last.store).format)) → OnOk written (IsClosed d g last device)
 closed_on d g last device (Ok n) number stands empties = record {
   stands = subst (λ (m : ℕ). StaysOnDevice d g m last device) number stands;
   empties = empties;

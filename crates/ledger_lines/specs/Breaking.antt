@@ -9,7 +9,7 @@ use Rattle.page_action.specs.declared.page_store.PageStore.{Ghosts}
 use Rattle.text_forms.specs.Values.{IsRangeOfBytes}
 use Rattle.ledger_lines.specs.Calls.{GivesEach, OpensScan, listed_line}
 use Rattle.ledger_lines.specs.Lines.{ledger_words}
-use Rattle.ledger_lines.specs.declared.line.Line.TheVariants.{List as ListOf}
+use Rattle.ledger_lines.specs.declared.line.LedgerLine.TheVariants.{List as ListOf}
 
 -- a writer's bytes go on with the first of these, be they none, some or all
 pub record AppendsFirst (before after : Option (List ℕ)) (bytes : List ℕ) : Type 0 where

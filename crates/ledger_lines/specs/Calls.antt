@@ -26,8 +26,8 @@ use Rattle.whole_calls.specs.Vacuuming.{vacuum_outcome}
 use Rattle.whole_calls.specs.Meanings.{HasBegun, IsSameHistory}
 use Rattle.whole_calls.specs.declared.inserted.Inserted.{Inserted}
 use Rattle.ledger_lines.specs.declared.dead.Dead.{Dead}
-use Rattle.ledger_lines.specs.declared.line.Line.{Line}
-use Rattle.ledger_lines.specs.declared.line.Line.TheVariants.{Insert, Delete, List as ListOf, Vacuum, Checkpoint, Commit}
+use Rattle.ledger_lines.specs.declared.line.LedgerLine.{LedgerLine}
+use Rattle.ledger_lines.specs.declared.line.LedgerLine.TheVariants.{Insert, Delete, List as ListOf, Vacuum, Checkpoint, Commit}
 use Rattle.ledger_lines.specs.declared.reply.Reply.{Reply}
 use Rattle.ledger_lines.specs.declared.reply.Reply.TheVariants.{Added, Deleted, Listed, CleanedUp, Checkpointed, Committed, Refused}
 
@@ -141,7 +141,7 @@ ListReplies g range old before after (Refused fault) = PrintsGiven g range (Err 
 ListReplies g range old before after reply = ⊥
 
 -- what each line is replied with is what its calls answered
-abbrev pub Replies : {S : Type 0} → Ghosts S → (Dead → Row → Bool) → Line → Index S → Index S → Option (List ℕ) → Option (List ℕ) → Reply → Type 0
+abbrev pub Replies : {S : Type 0} → Ghosts S → (Dead → Row → Bool) → LedgerLine → Index S → Index S → Option (List ℕ) → Option (List ℕ) → Reply → Type 0
 Replies g is_in (Insert entry) old new before after reply = InsertReplies g entry old new reply
 Replies g is_in (Delete rows) old new before after reply = DeleteReplies g is_in rows old new reply
 Replies g is_in (ListOf range) old new before after reply = ListReplies g range old before after reply

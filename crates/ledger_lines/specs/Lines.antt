@@ -3,11 +3,11 @@ use Rattle.std.specs.Prelude.{◌≡◌, ◌⊎◌, ℕ, Bool, List, [], ◌∷�
 use Rattle.index_model.specs.declared.fault.Fault.{Fault}
 use Rattle.text_forms.specs.Spelling.{is_one_of}
 use Rattle.text_forms.specs.Values.{IsEntryOfBytes, IsRangeOfBytes, AreNoEntry, AreNoRange, AreRows, AreNoRows, entry_words, range_words}
-use Rattle.ledger_lines.specs.declared.line.Line.{Line}
-use Rattle.ledger_lines.specs.declared.line.Line.TheVariants.{Insert, Delete, List as ListOf, Vacuum, Checkpoint, Commit}
+use Rattle.ledger_lines.specs.declared.line.LedgerLine.{LedgerLine}
+use Rattle.ledger_lines.specs.declared.line.LedgerLine.TheVariants.{Insert, Delete, List as ListOf, Vacuum, Checkpoint, Commit}
 
 -- the words of a line
-abbrev pub ledger_words : Line → List (List ℕ)
+abbrev pub ledger_words : LedgerLine → List (List ℕ)
 ledger_words (Insert entry) = codes "insert" ∷ entry_words entry
 ledger_words (Delete rows) = codes "delete" ∷ rows
 ledger_words (ListOf range) = codes "list" ∷ range_words range
@@ -16,7 +16,7 @@ ledger_words Checkpoint = codes "checkpoint" ∷ []
 ledger_words Commit = codes "commit" ∷ []
 
 -- the values of a line are in their ranges: keys of at most 64 bytes, rows that there are
-abbrev pub HasLedgerValues : Line → Type 0
+abbrev pub HasLedgerValues : LedgerLine → Type 0
 HasLedgerValues (Insert entry) = IsEntryOfBytes entry
 HasLedgerValues (Delete rows) = AreRows rows
 HasLedgerValues (ListOf range) = IsRangeOfBytes range

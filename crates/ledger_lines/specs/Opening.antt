@@ -10,8 +10,8 @@ use Rattle.index_model.specs.declared.fault.Fault.{Fault}
 use Rattle.index_model.specs.declared.fault.Fault.TheVariants.{Io}
 use Rattle.index_model.specs.declared.format.Format.{Format}
 use Rattle.index_model.specs.declared.limits.Limits.{Limits}
-use Rattle.ledger_lines.specs.declared.index_file.Left.{Left}
-use Rattle.ledger_lines.specs.declared.index_file.Left.TheVariants.{Nothing, Found as FoundThere, Made as MadeNew}
+use Rattle.ledger_lines.specs.declared.index_file.LeftDevice.{LeftDevice}
+use Rattle.ledger_lines.specs.declared.index_file.LeftDevice.TheVariants.{Nothing, Found as FoundThere, Made as MadeNew}
 use Rattle.ledger_lines.specs.declared.index_file.Opened.{Opened}
 use Rattle.ledger_lines.specs.declared.index_file.Opened.TheVariants.{Found, Made}
 use Rattle.page_action.specs.Contents.{entry_on_live_leaf}
@@ -51,20 +51,20 @@ OpensAs Is New (Found index) = Is index
 OpensAs Is New (Made index) = New index
 
 -- the device that an opening of a file that was there has left, if it took the file
-abbrev pub left_of : {D N : Type 0} → Option D → Left D N
+abbrev pub left_of : {D N : Type 0} → Option D → LeftDevice D N
 left_of None = Nothing
 left_of (Some device) = FoundThere device
 
 -- Why no new index is served: it couldn't be made, for a call of the file; or it was, and there was no memory
 -- to open it or its device failed, as far as that kept the disk model.
-abbrev pub IsNewNotServed : {D N : Type 0} → DeviceGhosts N → Fault → Left D N → Type 0
+abbrev pub IsNewNotServed : {D N : Type 0} → DeviceGhosts N → Fault → LeftDevice D N → Type 0
 IsNewNotServed e fault Nothing = fault ≡ Io
 IsNewNotServed e fault (FoundThere device) = ⊥
 IsNewNotServed e fault (MadeNew device) = IsTrue (e.is_honest device) → IsNoMemoryOrIo fault
 
 -- Why no index is served: the file couldn't be taken or made; or else why that in a file which held these
 -- bytes, or the new one, isn't opened. A sound one is refused for want of memory or of the device alone.
-abbrev pub IsNotServed : {D N : Type 0} → DeviceGhosts D → DeviceGhosts N → (ℕ → List ℕ) → Fault → Left D N → Type 0
+abbrev pub IsNotServed : {D N : Type 0} → DeviceGhosts D → DeviceGhosts N → (ℕ → List ℕ) → Fault → LeftDevice D N → Type 0
 IsNotServed d e bytes fault Nothing = fault ≡ Io
 IsNotServed d e bytes fault (FoundThere device) = IsNotOpened d IsTreeFor bytes 64 fault device
 IsNotServed d e bytes fault (MadeNew device) = IsTrue (e.is_honest device) → IsNoMemoryOrIo fault

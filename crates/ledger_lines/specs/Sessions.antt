@@ -19,7 +19,7 @@ use Rattle.ledger_lines.specs.Opening.{BeginsFrom, BeginsNew, IsNotServed}
 use Rattle.ledger_lines.specs.Lines.{LedgerLineFails, HasLedgerValues, ledger_words}
 use Rattle.ledger_lines.specs.Replies.{ReplyIsDurable, reply_text}
 use Rattle.ledger_lines.specs.declared.dead.Dead.{Dead}
-use Rattle.ledger_lines.specs.declared.line.Line.{Line}
+use Rattle.ledger_lines.specs.declared.line.LedgerLine.{LedgerLine}
 use Rattle.ledger_lines.specs.declared.program.Kept.{Kept}
 use Rattle.ledger_lines.specs.declared.program.Kept.TheVariants.{NoPath, Refused, Found, Made}
 use Rattle.ledger_lines.specs.declared.program.Served.{Served}
@@ -28,7 +28,7 @@ use Rattle.ledger_lines.specs.declared.reply.Reply.TheVariants.{Refused as IsRef
 
 -- words that spell a line were replied to: as that line's call answered
 pub record IsReplied {S : Type 0} (g : Ghosts S) (is_in : Dead → Row → Bool) (words : List (List ℕ)) (old new : Index S) (before after : Option (List ℕ)) (reply : Reply) : Type 0 where
-  pub line : Line
+  pub line : LedgerLine
   pub valid : HasLedgerValues line
   pub spelled : words ≡ ledger_words line
   pub replies : Replies g is_in line old new before after reply
@@ -42,7 +42,7 @@ NotDoneReplies words reply = ⊥
 
 -- ... were replied to: nothing is changed, and nothing printed before the reply
 pub record IsNotDone {S : Type 0} (words : List (List ℕ)) (old new : Index S) (before after : Option (List ℕ)) (reply : Reply) : Type 0 where
-  pub no_line : (line : Line) → HasLedgerValues line → words ≢ ledger_words line
+  pub no_line : (line : LedgerLine) → HasLedgerValues line → words ≢ ledger_words line
   pub replies : NotDoneReplies words reply
   pub unchanged : new ≡ old
   pub silent : after ≡ before
@@ -121,7 +121,7 @@ AnswersFirst d g is_in input old new before after =
 -- them waits in the log.
 pub record IsClosed {D : Type 0} (d : DeviceGhosts D) (g : Ghosts (Store D d)) (last : Index (Store D d)) (device : D) : Type 0 where
   pub stands : StaysOnDevice d g (state_of d last.store).acts last device
-  pub empties : IsLastOver d g last device (IsAtRest g (state_of d last.store).limits)
+  pub empties : IsLastOver d g last device (IsAtRest g (state_of d last.store).format)
 
 -- ... whose last checkpoint was refused with this fault, which has its cause
 abbrev pub IsClosingRefused : {D : Type 0} (d : DeviceGhosts D) → Ghosts (Store D d) → Fault → Index (Store D d) → D → Type 0

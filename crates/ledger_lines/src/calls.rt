@@ -11,7 +11,7 @@ ghost use Rattle.ledger_lines.specs.Lines.{HasLedgerValues, ledger_words};
 ghost use Rattle.ledger_lines.specs.Replies.{ReplyIsDurable};
 
 use crate::dead::{Dead, listed};
-use crate::line::Line;
+use crate::line::LedgerLine;
 use crate::put::put_entry;
 use crate::reply::Reply;
 use access_method::{Index, ScanToken};
@@ -28,7 +28,7 @@ use text_forms::Rows;
 pub fn call<D: Device, W: Write>(
     alloc: Global,
     index: &mut Index<Store<D>>,
-    line: Line<'_>,
+    line: LedgerLine<'_>,
     out: &mut W,
 ) -> io::Result<Reply>
     ensures stands { IfOk result
@@ -45,12 +45,12 @@ pub fn call<D: Device, W: Write>(
         (W.contents out.old) (W.contents out.new)) }
 {
     match line {
-        Line::Insert(entry) => Ok(insert(index, entry)),
-        Line::Delete(rows) => Ok(delete(alloc, index, rows)),
-        Line::List(range) => list(index, range, out),
-        Line::Vacuum => Ok(vacuum(index)),
-        Line::Checkpoint => Ok(checkpoint(index)),
-        Line::Commit => Ok(commit(index)),
+        LedgerLine::Insert(entry) => Ok(insert(index, entry)),
+        LedgerLine::Delete(rows) => Ok(delete(alloc, index, rows)),
+        LedgerLine::List(range) => list(index, range, out),
+        LedgerLine::Vacuum => Ok(vacuum(index)),
+        LedgerLine::Checkpoint => Ok(checkpoint(index)),
+        LedgerLine::Commit => Ok(commit(index)),
     }
 }
 

@@ -37,7 +37,7 @@ pub enum Opened<I, N> {
 /// The device over the file, as a refused opening left it: none, if the file couldn't be taken or made; that
 /// of a file that was there; or that of a new one.
 #[derive(Drop)]
-pub enum Left<D, N> {
+pub enum LeftDevice<D, N> {
     Nothing,
     Found(D),
     Made(N),
@@ -48,28 +48,28 @@ pub enum Left<D, N> {
 pub struct Refusal<D, N> {
     pub fault: Fault,
     pub error: Option<io::Error>,
-    pub left: Left<D, N>,
+    pub left: LeftDevice<D, N>,
 }
 
 // No file was taken or made, for what the system said.
 fn nothing<D, N>(error: Option<io::Error>) -> Refusal<D, N>
     ensures fault { result.fault ≡ Fault.Io }
-    ensures left { result.left ≡ Left.Nothing }
+    ensures left { result.left ≡ LeftDevice.Nothing }
 {
     Refusal {
         fault: Fault::Io,
         error,
-        left: Left::Nothing,
+        left: LeftDevice::Nothing,
     }
 }
 
 // The device that an opening of a file that was there has left.
-fn found_left<D, N>(device: Option<D>) -> Left<D, N>
+fn found_left<D, N>(device: Option<D>) -> LeftDevice<D, N>
     ensures { result ≡ left_of device }
 {
     match device {
-        Some(device) => Left::Found(device),
-        None => Left::Nothing,
+        Some(device) => LeftDevice::Found(device),
+        None => LeftDevice::Nothing,
     }
 }
 
@@ -147,7 +147,7 @@ fn make<F: Files<File = File>, D>(
             return Err(Refusal {
                 fault: not_made.fault,
                 error: not_made.error,
-                left: Left::Nothing,
+                left: LeftDevice::Nothing,
             });
         }
     };
@@ -157,7 +157,7 @@ fn make<F: Files<File = File>, D>(
         Err(refused) => Err(Refusal {
             fault: refused.fault,
             error: refused.device.error(),
-            left: Left::Made(refused.device),
+            left: LeftDevice::Made(refused.device),
         }),
     }
 }

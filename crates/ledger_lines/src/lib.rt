@@ -12,8 +12,8 @@ mod said;
 mod session;
 
 pub use dead::{Dead, listed};
-pub use index_file::{Left, Refusal};
-pub use line::{Line, parse};
+pub use index_file::{LeftDevice, Refusal};
+pub use line::{LedgerLine, parse};
 pub use program::{Ended, Kept, Served, ledger, refuse, refuse_words};
 pub use put::{put_entry, put_reply};
 pub use reply::{Reply, print_refused};

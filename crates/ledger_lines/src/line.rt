@@ -12,7 +12,7 @@ use text_forms::{Rows, Words, all_rows, entry, is_word, range};
 
 /// A line of a ledger.
 #[derive(Drop)]
-pub enum Line<'a> {
+pub enum LedgerLine<'a> {
     Insert(Entry),
     /// All entries with one of these rows are deleted.
     Delete(Rows<'a>),
@@ -24,10 +24,10 @@ pub enum Line<'a> {
 
 /// The line that a text spells. None if it has no form of a line; refused with `KeyTooLong` (6) or `BadRow`
 /// (7) if it has, but there is no such key, or else no such row.
-pub fn parse(text: &[u8]) -> Option<Result<Line<'_>, Fault>>
+pub fn parse(text: &[u8]) -> Option<Result<LedgerLine<'_>, Fault>>
     ensures ok { IfSome result (λ read. IfOk read (λ line. words_of text.now ≡ ledger_words line)) }
     ensures valid { IfSome result (λ read. IfOk read HasLedgerValues) }
-    ensures only { (line : Line) → HasLedgerValues line → words_of text.now ≡ ledger_words line
+    ensures only { (line : LedgerLine) → HasLedgerValues line → words_of text.now ≡ ledger_words line
         → result ≡ Some (Ok line) }
     ensures refused { (fault : Fault) → result ≡ Some (Err fault)
         → LedgerLineFails fault (words_of text.now) }
@@ -39,11 +39,11 @@ pub fn parse(text: &[u8]) -> Option<Result<Line<'_>, Fault>>
     if words.have_ended() { Some(line) } else { None }
 }
 
-fn read<'a>(words: &mut Words<'a>) -> Option<Result<Line<'a>, Fault>>
-    ensures ok { (line : Line) → result ≡ Some (Ok line)
+fn read<'a>(words: &mut Words<'a>) -> Option<Result<LedgerLine<'a>, Fault>>
+    ensures ok { (line : LedgerLine) → result ≡ Some (Ok line)
         → words.old ≡ ledger_words line ++ words.new }
     ensures valid { IfSome result (λ read. IfOk read HasLedgerValues) }
-    ensures only { (line : Line) → HasLedgerValues line → words.old ≡ ledger_words line
+    ensures only { (line : LedgerLine) → HasLedgerValues line → words.old ≡ ledger_words line
         → (result ≡ Some (Ok line)) × (words.new ≡ []) }
     ensures refused { (fault : Fault) → result ≡ Some (Err fault) → words.new ≡ []
         → LedgerLineFails fault words.old }
@@ -58,39 +58,39 @@ fn read<'a>(words: &mut Words<'a>) -> Option<Result<Line<'a>, Fault>>
 }
 
 // A line of one word.
-fn alone(name: &[u8]) -> Option<Line<'static>>
+fn alone(name: &[u8]) -> Option<LedgerLine<'static>>
     ensures found { IfSome result (λ line. name.now ∷ [] ≡ ledger_words line) }
     ensures valid { IfSome result HasLedgerValues }
-    ensures vacuum { name.now ≡ codes "vacuum" → result ≡ Some Line.Vacuum }
-    ensures checkpoint { name.now ≡ codes "checkpoint" → result ≡ Some Line.Checkpoint }
-    ensures commit { name.now ≡ codes "commit" → result ≡ Some Line.Commit }
+    ensures vacuum { name.now ≡ codes "vacuum" → result ≡ Some LedgerLine.Vacuum }
+    ensures checkpoint { name.now ≡ codes "checkpoint" → result ≡ Some LedgerLine.Checkpoint }
+    ensures commit { name.now ≡ codes "commit" → result ≡ Some LedgerLine.Commit }
     ensures named { OnSome result (is_alone name.now ≡ true) }
 {
     if is_word(name, b"vacuum") {
-        return Some(Line::Vacuum);
+        return Some(LedgerLine::Vacuum);
     }
     if is_word(name, b"checkpoint") {
-        return Some(Line::Checkpoint);
+        return Some(LedgerLine::Checkpoint);
     }
     if is_word(name, b"commit") {
-        return Some(Line::Commit);
+        return Some(LedgerLine::Commit);
     }
     None
 }
 
 // A line of an entry, a range or rows.
-fn with_values<'a>(name: &[u8], words: &mut Words<'a>) -> Option<Result<Line<'a>, Fault>>
-    ensures ok { (line : Line) → result ≡ Some (Ok line)
+fn with_values<'a>(name: &[u8], words: &mut Words<'a>) -> Option<Result<LedgerLine<'a>, Fault>>
+    ensures ok { (line : LedgerLine) → result ≡ Some (Ok line)
         → name.now ∷ words.old ≡ ledger_words line ++ words.new }
     ensures valid { IfSome result (λ read. IfOk read HasLedgerValues) }
     ensures insert { (entry : TheEntry) → IsEntryOfBytes entry → name.now ≡ codes "insert"
         → words.old ≡ entry_words entry
-        → (result ≡ Some (Ok (Line.Insert entry))) × (words.new ≡ []) }
+        → (result ≡ Some (Ok (LedgerLine.Insert entry))) × (words.new ≡ []) }
     ensures delete { AreRows words.old → name.now ≡ codes "delete"
-        → (result ≡ Some (Ok (Line.Delete words.old))) × (words.new ≡ []) }
+        → (result ≡ Some (Ok (LedgerLine.Delete words.old))) × (words.new ≡ []) }
     ensures list { (range : TheRange) → IsRangeOfBytes range → name.now ≡ codes "list"
         → words.old ≡ range_words range
-        → (result ≡ Some (Ok (Line.List range))) × (words.new ≡ []) }
+        → (result ≡ Some (Ok (LedgerLine.List range))) × (words.new ≡ []) }
     ensures refused { (fault : Fault) → result ≡ Some (Err fault) → words.new ≡ []
         → LedgerValuesFail fault name.now words.old }
     ensures no_entry { (fault : Fault) → name.now ≡ codes "insert" → AreNoEntry fault words.old []
@@ -101,13 +101,13 @@ fn with_values<'a>(name: &[u8], words: &mut Words<'a>) -> Option<Result<Line<'a>
         → (result ≡ Some (Err fault)) × (words.new ≡ []) }
 {
     if is_word(name, b"insert") {
-        return Some(entry(words)?.map(|entry| Line::Insert(entry)));
+        return Some(entry(words)?.map(|entry| LedgerLine::Insert(entry)));
     }
     if is_word(name, b"delete") {
-        return Some(all_rows(words)?.map(|rows| Line::Delete(rows)));
+        return Some(all_rows(words)?.map(|rows| LedgerLine::Delete(rows)));
     }
     if is_word(name, b"list") {
-        return Some(range(words)?.map(|range| Line::List(range)));
+        return Some(range(words)?.map(|range| LedgerLine::List(range)));
     }
     None
 }

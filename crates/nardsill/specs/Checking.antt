@@ -49,8 +49,8 @@ AnswersCheck (Err (Refused fault)) checked = IsCheckRefusal fault checked
 
 -- a file, which held these bytes for each length that it might have, is opened with the pages of its index
 abbrev pub IsOpenedForCheck : {D : Type 0} (d : DeviceGhosts D) → (ℕ → List ℕ) → Store D d → Type 0
-IsOpenedForCheck d held store = IsTrue (d.is_honest (device_of d store)) → (limits : Format) (pages : List Page)
-    → HasIndex limits pages (bytes_before held (d.trace (device_of d store))) → IsSameIndex d limits pages store
+IsOpenedForCheck d held store = IsTrue (d.is_honest (device_of d store)) → (format : Format) (pages : List Page)
+    → HasIndex format pages (bytes_before held (d.trace (device_of d store))) → IsSameIndex d format pages store
 
 -- The index in the file was opened and judged, and what the verifier answered is told: of its pages, which it
 -- has left as they were.
@@ -62,8 +62,8 @@ pub record IsJudged {D : Type 0} (d : DeviceGhosts D) (g : Ghosts (Store D d)) (
   pub state_is : g.state last ≡ g.state store
   pub outcome : Result Report CheckFault
   pub told : AnswersCheck outcome checked
-  pub answer : (g.backing last).honest ≡ true → IsAnswer true (g.state store).limits.unique (g.state store).pages outcome
-  pub tree : (g.backing last).honest ≡ true → OnOk outcome (IsTreeFor (g.state store).limits (g.state store).pages)
+  pub answer : (g.backing last).honest ≡ true → IsAnswer true (g.state store).format.unique (g.state store).pages outcome
+  pub tree : (g.backing last).honest ≡ true → OnOk outcome (IsTreeFor (g.state store).format (g.state store).pages)
 
 -- where 0 is answered, it was judged; else a fault is told
 pub record IsChecked {D : Type 0} (d : DeviceGhosts D) (g : Ghosts (Store D d)) (held : ℕ → List ℕ) (checked : Checked) : Type 0 where

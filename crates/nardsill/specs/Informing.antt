@@ -11,10 +11,10 @@ use Rattle.nardsill.specs.declared.facts.Facts.{Facts}
 -- log has failed
 pub record TellsIndex {S : Type 0} (g : Ghosts S) (facts : Facts) (index : Index S) : Type 0 where
   pub status : facts.status ≡ 0
-  pub items : facts.items ≡ (g.state index.store).limits.items
-  pub pages : facts.pages ≡ (g.state index.store).limits.pages
-  pub log_bytes : facts.log_bytes ≡ (g.state index.store).limits.log_bytes
-  pub unique : facts.is_unique ≡ (g.state index.store).limits.unique
+  pub items : facts.items ≡ (g.state index.store).format.items
+  pub pages : facts.pages ≡ (g.state index.store).format.pages
+  pub log_bytes : facts.log_bytes ≡ (g.state index.store).format.log_bytes
+  pub unique : facts.is_unique ≡ (g.state index.store).format.unique
   pub used : facts.pages_used ≡ length (g.state index.store).pages
   pub free : facts.pages_free ≡ free_count (g.state index.store) 63 (length (g.state index.store).pages)
   pub stopped : facts.is_stopped ≡ (g.backing index.store).stopped

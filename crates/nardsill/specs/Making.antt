@@ -8,7 +8,7 @@ use Rattle.index_model.specs.declared.fault.Fault.TheVariants.{Io, BadLimits, Ba
 use Rattle.recovery.specs.Fresh.{IsEmptyIndex, CrashesToEmpty}
 use Rattle.nardsill.specs.Asking.{limits_asked}
 use Rattle.nardsill.specs.Meanings.{AnswersFault}
-use Rattle.nardsill.specs.declared.answer.Answer.{Answer}
+use Rattle.nardsill.specs.declared.answer.CallAnswer.{CallAnswer}
 use Rattle.nardsill.specs.declared.ask.MakeAsk.{MakeAsk}
 
 -- the device over the file has an empty index of the limits that were asked for, all of it synced
@@ -25,6 +25,6 @@ abbrev pub IsMakeFault : MakeAsk → Fault → Type 0
 IsMakeFault ask fault = ((fault ≡ BadLimits) × (AreLimits (made (limits_asked ask)) → ⊥)) ⊎ (fault ≡ Io) ⊎ (fault ≡ BadVersion)
 
 -- Where 0 is answered the index was made that was asked for; else a fault of making is told.
-pub record IsMade {D : Type 0} (d : DeviceGhosts D) (ask : MakeAsk) (answer : Answer) : Type 0 where
+pub record IsMade {D : Type 0} (d : DeviceGhosts D) (ask : MakeAsk) (answer : CallAnswer) : Type 0 where
   pub as_asked : answer.status ≡ 0 → IsMadeAsAsked d ask
   pub refused : answer.status ≢ 0 → (fault : Fault) × IsMakeFault ask fault × AnswersFault fault answer

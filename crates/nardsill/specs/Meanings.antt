@@ -6,7 +6,7 @@ use Rattle.index_model.specs.declared.entry.Entry.{Entry}
 use Rattle.index_model.specs.declared.fault.Fault.{Fault}
 use Rattle.index_model.specs.declared.stats.VacuumStats.{VacuumStats}
 use Rattle.access_method.specs.declared.token.ScanToken.{ScanToken}
-use Rattle.nardsill.specs.declared.answer.Answer.{Answer}
+use Rattle.nardsill.specs.declared.answer.CallAnswer.{CallAnswer}
 use Rattle.nardsill.specs.declared.answer.Given.{Given}
 use Rattle.redo_log.specs.declared.gate.Advance.{Advance}
 use Rattle.redo_log.specs.declared.gate.Advance.TheVariants.{Nothing, Written, Opened}
@@ -21,7 +21,7 @@ abbrev pub row_named : Fault → Row
 row_named fault = unwrap_or (row_of fault) (record { block = 0; offset = 0 })
 
 -- the call was refused with this fault
-pub record AnswersFault (fault : Fault) (answer : Answer) : Type 0 where
+pub record AnswersFault (fault : Fault) (answer : CallAnswer) : Type 0 where
   pub status : answer.status ≡ number_of fault
   pub page : answer.page ≡ page_of fault
   pub block : answer.block ≡ (row_named fault).block
@@ -29,7 +29,7 @@ pub record AnswersFault (fault : Fault) (answer : Answer) : Type 0 where
   pub quiet : answer.is_durable ≡ false
 
 -- what a call came to is told: 0 and what it tells, or the refusal
-abbrev pub Tells : {A : Type 0} → (A → Answer → Type 0) → Result A Fault → Answer → Type 0
+abbrev pub Tells : {A : Type 0} → (A → CallAnswer → Type 0) → Result A Fault → CallAnswer → Type 0
 Tells TellsIt (Ok it) answer = (answer.status ≡ 0) × TellsIt it answer
 Tells TellsIt (Err fault) answer = AnswersFault fault answer
 
@@ -38,15 +38,15 @@ abbrev pub unfinished_number : Option Fault → ℕ
 unfinished_number None = 0
 unfinished_number (Some fault) = number_of fault
 
-pub record AnswersInserted (inserted : Inserted) (answer : Answer) : Type 0 where
+pub record AnswersInserted (inserted : Inserted) (answer : CallAnswer) : Type 0 where
   pub action : answer.number ≡ inserted.action
   pub unfinished : answer.other ≡ unfinished_number inserted.unfinished
 
-pub record AnswersToken (token : ScanToken) (answer : Answer) : Type 0 where
+pub record AnswersToken (token : ScanToken) (answer : CallAnswer) : Type 0 where
   pub number : answer.number ≡ token.number
   pub session : answer.session ≡ token.session
 
-pub record SpellsStats (stats : VacuumStats) (answer : Answer) : Type 0 where
+pub record SpellsStats (stats : VacuumStats) (answer : CallAnswer) : Type 0 where
   pub removed : answer.number ≡ stats.tuples_removed
   pub entries : answer.other ≡ stats.num_index_tuples
   pub pages : answer.num_pages ≡ stats.num_pages
@@ -55,18 +55,18 @@ pub record SpellsStats (stats : VacuumStats) (answer : Answer) : Type 0 where
   pub free : answer.pages_free ≡ stats.pages_free
 
 -- a part has ended, with these statistics, or goes on
-abbrev pub AnswersPart : Option VacuumStats → Answer → Type 0
+abbrev pub AnswersPart : Option VacuumStats → CallAnswer → Type 0
 AnswersPart None answer = answer.session ≡ 0
 AnswersPart (Some stats) answer = (answer.session ≡ 1) × SpellsStats stats answer
 
 -- nothing waits for a commit; or its first sync is the next one, or its last one
-abbrev pub AnswersPartOfCommit : Advance → Answer → Type 0
+abbrev pub AnswersPartOfCommit : Advance → CallAnswer → Type 0
 AnswersPartOfCommit Nothing answer = answer.number ≡ 0
 AnswersPartOfCommit Written answer = answer.number ≡ 1
 AnswersPartOfCommit Opened answer = answer.number ≡ 2
 
 -- so many actions are durable
-pub record AnswersDurable (actions : ℕ) (answer : Answer) : Type 0 where
+pub record AnswersDurable (actions : ℕ) (answer : CallAnswer) : Type 0 where
   pub number : answer.number ≡ actions
   pub is_durable : answer.is_durable ≡ true
 

@@ -32,19 +32,19 @@ use Rattle.whole_calls.specs.declared.inserted.Inserted.{Inserted}
 use Rattle.nardsill.specs.Asking.{SpellsNoEntry, SpellsNoRange, SpellsEntry, SpellsRange, row_asked, token_asked}
 use Rattle.access_method.specs.Rows.{is_row_in, row_count, same_row}
 use Rattle.nardsill.specs.Meanings.{AnswersFault, Tells, AnswersPartOfCommit, AnswersDurable, AnswersInserted, AnswersPart, SpellsStats, AnswersToken}
-use Rattle.nardsill.specs.declared.answer.Answer.{Answer}
+use Rattle.nardsill.specs.declared.answer.CallAnswer.{CallAnswer}
 use Rattle.nardsill.specs.declared.ask.Ask.{Ask}
 use Rattle.access_method.specs.declared.rows.RowSet.{RowSet}
 
 -- what was asked is misspelled, and that is its fault: the call is refused, and nothing is changed
-pub record IsMisspelled {S : Type 0} (IsNone : Fault → Type 0) (answer : Answer) (old new : Index S) : Type 0 where
+pub record IsMisspelled {S : Type 0} (IsNone : Fault → Type 0) (answer : CallAnswer) (old new : Index S) : Type 0 where
   pub fault : Fault
   pub is_none : IsNone fault
   pub refused : AnswersFault fault answer
   pub same : new ≡ old
 
 -- the entry that is spelled was asked to be inserted: with all that the index promises of that
-pub record Inserts {S : Type 0} (g : Ghosts S) (ask : Ask) (answer : Answer) (old new : Index S) : Type 0 where
+pub record Inserts {S : Type 0} (g : Ghosts S) (ask : Ask) (answer : CallAnswer) (old new : Index S) : Type 0 where
   pub entry : Entry
   pub spelled : SpellsEntry ask entry
   pub outcome : Result Inserted Fault
@@ -56,7 +56,7 @@ pub record Inserts {S : Type 0} (g : Ghosts S) (ask : Ask) (answer : Answer) (ol
   pub tokens : SameTokens old new
 
 -- a scan of the range that is spelled was asked for
-pub record BeginsScan {S : Type 0} (g : Ghosts S) (ask : Ask) (answer : Answer) (old new : Index S) : Type 0 where
+pub record BeginsScan {S : Type 0} (g : Ghosts S) (ask : Ask) (answer : CallAnswer) (old new : Index S) : Type 0 where
   pub range : Range
   pub spelled : SpellsRange ask range
   pub outcome : Result ScanToken Fault
@@ -68,11 +68,11 @@ pub record BeginsScan {S : Type 0} (g : Ghosts S) (ask : Ask) (answer : Answer) 
   pub cause : IfErr outcome (NotOpenedFor g old)
 
 -- nothing more is told
-abbrev pub AnswersNothing : Unit {0} → Answer → Type 0
+abbrev pub AnswersNothing : Unit {0} → CallAnswer → Type 0
 AnswersNothing done answer = ⊤
 
 -- the scan of the token that is named was to begin anew, over the range that is spelled
-pub record BeginsAgain {S : Type 0} (g : Ghosts S) (ask : Ask) (answer : Answer) (old new : Index S) : Type 0 where
+pub record BeginsAgain {S : Type 0} (g : Ghosts S) (ask : Ask) (answer : CallAnswer) (old new : Index S) : Type 0 where
   pub range : Range
   pub spelled : SpellsRange ask range
   pub outcome : Result (Unit {0}) Fault
@@ -84,7 +84,7 @@ pub record BeginsAgain {S : Type 0} (g : Ghosts S) (ask : Ask) (answer : Answer)
   pub cause : IfErr outcome (NotRescannedFor g old (token_asked ask))
 
 -- ... was to be closed: refused only where it isn't open
-pub record ClosesHandle {S : Type 0} (g : Ghosts S) (ask : Ask) (answer : Answer) (old new : Index S) : Type 0 where
+pub record ClosesHandle {S : Type 0} (g : Ghosts S) (ask : Ask) (answer : CallAnswer) (old new : Index S) : Type 0 where
   pub outcome : Result (Unit {0}) Fault
   pub told : Tells AnswersNothing outcome answer
   pub runs : OnOk outcome (IndexIsRun g ask.session (EndMeans ask.session) None old new)
@@ -93,14 +93,14 @@ pub record ClosesHandle {S : Type 0} (g : Ghosts S) (ask : Ask) (answer : Answer
   pub closed : seat_of old.seats (token_asked ask) ≡ None → (outcome ≡ Err NoSession) × (new ≡ old)
 
 -- a row was named beside those that were; or none is named any more, as it is no row, or there is no memory
-abbrev pub Names : Ask → Answer → RowSet → RowSet → Type 0
+abbrev pub Names : Ask → CallAnswer → RowSet → RowSet → Type 0
 Names ask answer old new =
     (IsRow (row_asked ask) × (answer.status ≡ 0) × ((row : Row) → is_row_in new row ≡ (same_row (row_asked ask) row || is_row_in old row)))
     ⊎ ((IsRow (row_asked ask) → ⊥) × AnswersFault BadRow answer × (new.rows ≡ None))
     ⊎ (IsRow (row_asked ask) × AnswersFault NoMemory answer × (new.rows ≡ None))
 
 -- all entries of the rows that were named were to be deleted
-pub record Deletes {S : Type 0} (g : Ghosts S) (dead : RowSet) (answer : Answer) (old new : Index S) : Type 0 where
+pub record Deletes {S : Type 0} (g : Ghosts S) (dead : RowSet) (answer : CallAnswer) (old new : Index S) : Type 0 where
   pub outcome : Result VacuumStats Fault
   pub told : Tells SpellsStats outcome answer
   pub runs : ForEachIndexHistory g old new (BulkDeleteRuns g (is_row_in dead) outcome old new)
@@ -110,7 +110,7 @@ pub record Deletes {S : Type 0} (g : Ghosts S) (dead : RowSet) (answer : Answer)
   pub tokens : SameTokens old new
 
 -- empty leaves were to be deleted
-pub record CleansIndex {S : Type 0} (g : Ghosts S) (answer : Answer) (old new : Index S) : Type 0 where
+pub record CleansIndex {S : Type 0} (g : Ghosts S) (answer : CallAnswer) (old new : Index S) : Type 0 where
   pub outcome : Result VacuumStats Fault
   pub told : Tells SpellsStats outcome answer
   pub runs : IndexIsRun g 63 (VacuumMeans 63 ToCleanup outcome) (vacuum_outcome outcome) old new
@@ -120,7 +120,7 @@ pub record CleansIndex {S : Type 0} (g : Ghosts S) (answer : Answer) (old new : 
   pub tokens : SameTokens old new
 
 -- a bulk delete of the rows that were named was to begin, which goes on in parts
-pub record BeginsDelete {S : Type 0} (g : Ghosts S) (dead : RowSet) (answer : Answer) (old new : Index S) : Type 0 where
+pub record BeginsDelete {S : Type 0} (g : Ghosts S) (dead : RowSet) (answer : CallAnswer) (old new : Index S) : Type 0 where
   pub outcome : Result (Unit {0}) Fault
   pub told : Tells AnswersNothing outcome answer
   pub opened : OnOk outcome (BulkDeleteIsOpened g dead old new)
@@ -128,7 +128,7 @@ pub record BeginsDelete {S : Type 0} (g : Ghosts S) (dead : RowSet) (answer : An
   pub cause : IfErr outcome (NotBegunFor g old)
 
 -- ... a cleanup
-pub record BeginsCleanup {S : Type 0} (g : Ghosts S) (answer : Answer) (old new : Index S) : Type 0 where
+pub record BeginsCleanup {S : Type 0} (g : Ghosts S) (answer : CallAnswer) (old new : Index S) : Type 0 where
   pub outcome : Result (Unit {0}) Fault
   pub told : Tells AnswersNothing outcome answer
   pub opened : OnOk outcome (CleanupIsOpened g old new)
@@ -146,7 +146,7 @@ pub record PartOf {S : Type 0} (g : Ghosts S) (steps : ℕ) (outcome : Result (O
   pub entries : (what : Followed) → ForEachIndexHistory g old new (λ start history calls. PartCountsOn g what session outcome old new)
   pub cause : ForEachIndexHistory g old new (λ start history calls. PartIsCaused g session outcome old new.store calls)
 
-pub record GoesOn {S : Type 0} (g : Ghosts S) (steps : ℕ) (answer : Answer) (old new : Index S) : Type 0 where
+pub record GoesOn {S : Type 0} (g : Ghosts S) (steps : ℕ) (answer : CallAnswer) (old new : Index S) : Type 0 where
   pub outcome : Result (Option VacuumStats) Fault
   pub told : Tells AnswersPart outcome answer
   pub none : NoVacuumIsOpen old.seats → FindsNoVacuum outcome old new
@@ -157,7 +157,7 @@ pub record GoesOn {S : Type 0} (g : Ghosts S) (steps : ℕ) (answer : Answer) (o
 
 -- ... was to be over
 -- (its rows are spent then)
-pub record EndsVacuum {S : Type 0} (g : Ghosts S) (answer : Answer) (old new : Index S) (spent rest : RowSet) : Type 0 where
+pub record EndsVacuum {S : Type 0} (g : Ghosts S) (answer : CallAnswer) (old new : Index S) (spent rest : RowSet) : Type 0 where
   pub outcome : Result (Unit {0}) Fault
   pub told : Tells AnswersNothing outcome answer
   pub none : NoVacuumIsOpen old.seats → FindsNoVacuum outcome old new × (rest ≡ spent)
@@ -165,7 +165,7 @@ pub record EndsVacuum {S : Type 0} (g : Ghosts S) (answer : Answer) (old new : I
 
 -- The next part of a commit was to be done. It leaves contents, calls and open scans as they are, and what is
 -- durable.
-pub record Advances {S : Type 0} (g : Ghosts S) (answer : Answer) (old new : Index S) : Type 0 where
+pub record Advances {S : Type 0} (g : Ghosts S) (answer : CallAnswer) (old new : Index S) : Type 0 where
   pub outcome : Result Advance Fault
   pub told : Tells AnswersPartOfCommit outcome answer
   pub stays : IndexStays g old new
@@ -175,7 +175,7 @@ pub record Advances {S : Type 0} (g : Ghosts S) (answer : Answer) (old new : Ind
   pub tokens : SameTokens old new
 
 -- all actions were to be made durable, by a commit or a checkpoint
-pub record MakesDurable {S : Type 0} (g : Ghosts S) (upkeep : Upkeep) (answer : Answer) (old new : Index S) : Type 0 where
+pub record MakesDurable {S : Type 0} (g : Ghosts S) (upkeep : Upkeep) (answer : CallAnswer) (old new : Index S) : Type 0 where
   pub outcome : Result ℕ Fault
   pub told : Tells AnswersDurable outcome answer
   pub runs : IndexIsRun g 0 IsSameHistory (upkeep_outcome upkeep outcome) old new
@@ -193,7 +193,7 @@ IsUnknown what =
 -- those that are spent. 1 inserts, 2 opens a scan, 3 begins one anew, 4 closes one, 5 names a row, 6 deletes
 -- the entries of the rows that were named, 7 cleans up, 8 commits, 9 makes a checkpoint. In parts, 11 begins
 -- to delete, 12 to clean up, 13 goes on and 14 ends. 15 does the next part of a commit.
-pub record ServesCall {S : Type 0} (g : Ghosts S) (ask : Ask) (answer : Answer) (old new : Index S) (dead left spent rest : RowSet) : Type 0 where
+pub record ServesCall {S : Type 0} (g : Ghosts S) (ask : Ask) (answer : CallAnswer) (old new : Index S) (dead left spent rest : RowSet) : Type 0 where
   pub inserted : ask.what ≡ 1 → Inserts g ask answer old new ⊎ IsMisspelled (SpellsNoEntry ask) answer old new
   pub began : ask.what ≡ 2 → BeginsScan g ask answer old new ⊎ IsMisspelled (SpellsNoRange ask) answer old new
   pub begun_again : ask.what ≡ 3 → BeginsAgain g ask answer old new ⊎ IsMisspelled (SpellsNoRange ask) answer old new
@@ -223,7 +223,7 @@ OfBoth P (Some old) None = ⊥
 OfBoth P None new = ⊥
 
 -- the file was synced; or the system refused that, or the handle has none to sync
-abbrev pub AnswersSync : Answer → Type 0
+abbrev pub AnswersSync : CallAnswer → Type 0
 AnswersSync answer = (answer.status ≡ 0) ⊎ AnswersFault Io answer ⊎ AnswersFault NoSession answer
 
 -- this many of the rows were freed, or all if there were fewer
@@ -234,7 +234,7 @@ pub record AreFreed (count : ℕ) (old new : RowSet) : Type 0 where
 -- What is answered to a call of a handle. 10 lets it go: what is left of it owns no file, and no memory but
 -- its own block, which is C's to free. 16 syncs the file that the handle was given to sync. 17 frees so many
 -- of the rows that are spent, as `block` says. A handle without an index answers no other call.
-pub record IsServed {S : Type 0} (g : Ghosts S) (ask : Ask) (answer : Answer) (old new : Option (Index S)) (dead left spent rest : RowSet) : Type 0 where
+pub record IsServed {S : Type 0} (g : Ghosts S) (ask : Ask) (answer : CallAnswer) (old new : Option (Index S)) (dead left spent rest : RowSet) : Type 0 where
   pub let_go : ask.what ≡ 10 → (new ≡ None) × (left.rows ≡ None) × (rest.rows ≡ None) × (answer.status ≡ 0)
   pub synced : ask.what ≡ 16 → AnswersSync answer × (new ≡ old) × (left ≡ dead) × (rest ≡ spent)
   pub freed : ask.what ≡ 17 → (answer.status ≡ 0) × (new ≡ old) × (left ≡ dead) × AreFreed ask.block spent rest

@@ -13,18 +13,18 @@ use Rattle.page_store.specs.declared.store.Store.{Store}
 use Rattle.recovery.specs.Index.{HasIndex}
 use Rattle.tree_acts.specs.TheoremKeys.{IsTreeFor}
 use Rattle.nardsill.specs.Meanings.{AnswersFault}
-use Rattle.nardsill.specs.declared.answer.Answer.{Answer}
+use Rattle.nardsill.specs.declared.answer.CallAnswer.{CallAnswer}
 use Rattle.access_method.specs.declared.rows.RowSet.{RowSet}
 
 -- where a file, which held these bytes for each length that it might have, held an index whose pages are a
 -- B-link tree, of a unique one keyed, it is opened with them
 abbrev pub BeginsWithFile : {D : Type 0} (d : DeviceGhosts D) → Ghosts (Store D d) → (ℕ → List ℕ) → Index (Store D d) → Type 0
-BeginsWithFile d g held index = IsTrue (d.is_honest (device_of d index.store)) → (limits : Format) (pages : List Page)
-    → HasIndex limits pages (bytes_before held (d.trace (device_of d index.store))) → IsTreeFor limits pages → IndexBegins d g limits pages index
+BeginsWithFile d g held index = IsTrue (d.is_honest (device_of d index.store)) → (format : Format) (pages : List Page)
+    → HasIndex format pages (bytes_before held (d.trace (device_of d index.store))) → IsTreeFor format pages → IndexBegins d g format pages index
 
 -- Where 0 is answered there is an index, which is the file's; else a fault of opening is told, and the handle
 -- is as it was. The rows that were named stay.
-pub record IsTaken {D : Type 0} (d : DeviceGhosts D) (g : Ghosts (Store D d)) (held : ℕ → List ℕ) (answer : Answer) (old new : Option (Index (Store D d))) (dead left : RowSet) : Type 0 where
+pub record IsTaken {D : Type 0} (d : DeviceGhosts D) (g : Ghosts (Store D d)) (held : ℕ → List ℕ) (answer : CallAnswer) (old new : Option (Index (Store D d))) (dead left : RowSet) : Type 0 where
   pub opened : answer.status ≡ 0 → IsSome new
   pub begins : answer.status ≡ 0 → IfSome new (BeginsWithFile d g held)
   pub same : answer.status ≢ 0 → new ≡ old

@@ -9,7 +9,7 @@ use index_model::{Fault, VacuumStats};
 /// `nardsill_proved.h` says which fields each call tells.
 #[repr(C)]
 #[derive(Clone, Copy)]
-pub struct Answer {
+pub struct CallAnswer {
     pub status: u32,
     pub page: u32,
     /// The number of an insert's action; how many entries were removed; how many actions are durable; a
@@ -48,7 +48,7 @@ pub struct Given {
 }
 
 /// An answer that tells nothing more.
-pub const DONE: Answer = Answer {
+pub const DONE: CallAnswer = CallAnswer {
     status: 0,
     page: 0,
     number: 0,
@@ -86,12 +86,12 @@ fn row_of(fault: &Fault) -> (u32, u16)
 }
 
 /// The answer to a call that was refused.
-pub fn refused(fault: Fault) -> Answer
+pub fn refused(fault: Fault) -> CallAnswer
     ensures { AnswersFault fault result }
 {
     let page = page_of(&fault);
     let (block, offset) = row_of(&fault);
-    Answer {
+    CallAnswer {
         status: fault.number() as u32,
         page,
         block,
@@ -111,12 +111,12 @@ pub fn unfinished(fault: Option<Fault>) -> u64
 }
 
 /// The answer that tells statistics.
-pub fn counted(stats: &VacuumStats) -> Answer
+pub fn counted(stats: &VacuumStats) -> CallAnswer
     ensures told { SpellsStats stats.now result }
     ensures status { result.status ≡ 0 }
     ensures quiet { result.is_durable ≡ false }
 {
-    Answer {
+    CallAnswer {
         number: stats.tuples_removed,
         other: stats.num_index_tuples,
         num_pages: stats.num_pages,

@@ -7,7 +7,7 @@ ghost use Rattle.nardsill.specs.Asking.{SpellsNoEntry, SpellsNoRange};
 ghost use Rattle.nardsill.specs.Serving.{Advances, AnswersSync, BeginsCleanup, BeginsDelete, BeginsScan, BeginsAgain, CleansIndex, ClosesHandle, Deletes, EndsVacuum, GoesOn, Inserts, IsMisspelled, IsServed, IsUnknown, MakesDurable, Names, ServesCall, AnswersNothing};
 ghost use Rattle.nardsill.specs.Meanings.{AnswersFault, Tells, AnswersPartOfCommit, AnswersDurable, AnswersInserted, AnswersPart, SpellsStats, AnswersToken};
 
-use crate::answer::{Answer, DONE, counted, refused, unfinished};
+use crate::answer::{CallAnswer, DONE, counted, refused, unfinished};
 use crate::ask::Ask;
 use crate::handle::{Handle, InFile};
 use access_method::{Index, RowSet, ScanToken};
@@ -21,7 +21,7 @@ use std::mem;
 use whole_calls::Inserted;
 
 /// Does what is asked, whatever it is.
-pub fn serve(handle: &mut Handle, ask: Ask) -> Answer
+pub fn serve(handle: &mut Handle, ask: Ask) -> CallAnswer
     ensures { IsServed ⟦<Store<FileDevice<Unknown>> as PageStore>⟧ ask result
         handle.old.index handle.new.index handle.old.dead handle.new.dead
         handle.old.spent handle.new.spent }
@@ -45,7 +45,7 @@ pub fn serve(handle: &mut Handle, ask: Ask) -> Answer
 }
 
 // Syncs the file that another handle's index writes.
-fn sync(syncer: &Option<Syncer>) -> Answer
+fn sync(syncer: &Option<Syncer>) -> CallAnswer
     ensures { AnswersSync result }
 {
     match syncer {
@@ -64,7 +64,7 @@ fn call(
     dead: &mut RowSet,
     spent: &mut RowSet,
     ask: &Ask,
-) -> Answer
+) -> CallAnswer
     ensures { ServesCall ⟦<Store<FileDevice<Unknown>> as PageStore>⟧ ask.now result
         index.old index.new dead.old dead.new spent.old spent.new }
 {
@@ -88,7 +88,7 @@ fn call(
 }
 
 // Adds an entry.
-fn insert<S: PageStore>(index: &mut Index<S>, ask: &Ask) -> Answer
+fn insert<S: PageStore>(index: &mut Index<S>, ask: &Ask) -> CallAnswer
     ensures steps { Continues S.follows index.old.store index.new.store }
     ensures means { Inserts S.PageStore ask.now result index.old index.new
         ⊎ IsMisspelled (SpellsNoEntry ask.now) result index.old index.new }
@@ -100,12 +100,12 @@ fn insert<S: PageStore>(index: &mut Index<S>, ask: &Ask) -> Answer
     }
 }
 
-fn inserted(outcome: Result<Inserted, Fault>) -> Answer
+fn inserted(outcome: Result<Inserted, Fault>) -> CallAnswer
     ensures told { Tells AnswersInserted outcome result }
     ensures quiet { result.is_durable ≡ false }
 {
     match outcome {
-        Ok(inserted) => Answer {
+        Ok(inserted) => CallAnswer {
             number: inserted.action,
             other: unfinished(inserted.unfinished),
             ..DONE
@@ -115,7 +115,7 @@ fn inserted(outcome: Result<Inserted, Fault>) -> Answer
 }
 
 // Begins a scan.
-fn begin<S: PageStore>(index: &mut Index<S>, ask: &Ask) -> Answer
+fn begin<S: PageStore>(index: &mut Index<S>, ask: &Ask) -> CallAnswer
     ensures steps { Continues S.follows index.old.store index.new.store }
     ensures means { BeginsScan S.PageStore ask.now result index.old index.new
         ⊎ IsMisspelled (SpellsNoRange ask.now) result index.old index.new }
@@ -127,12 +127,12 @@ fn begin<S: PageStore>(index: &mut Index<S>, ask: &Ask) -> Answer
     }
 }
 
-fn begun(outcome: Result<ScanToken, Fault>) -> Answer
+fn begun(outcome: Result<ScanToken, Fault>) -> CallAnswer
     ensures told { Tells AnswersToken outcome result }
     ensures quiet { result.is_durable ≡ false }
 {
     match outcome {
-        Ok(token) => Answer {
+        Ok(token) => CallAnswer {
             number: token.number,
             session: token.session,
             ..DONE
@@ -142,7 +142,7 @@ fn begun(outcome: Result<ScanToken, Fault>) -> Answer
 }
 
 // Begins a scan anew.
-fn again<S: PageStore>(index: &mut Index<S>, ask: &Ask) -> Answer
+fn again<S: PageStore>(index: &mut Index<S>, ask: &Ask) -> CallAnswer
     ensures steps { Continues S.follows index.old.store index.new.store }
     ensures means { BeginsAgain S.PageStore ask.now result index.old index.new
         ⊎ IsMisspelled (SpellsNoRange ask.now) result index.old index.new }
@@ -155,7 +155,7 @@ fn again<S: PageStore>(index: &mut Index<S>, ask: &Ask) -> Answer
 }
 
 // The next part of a commit.
-fn advance<D: Device>(index: &mut Index<Store<D>>) -> Answer
+fn advance<D: Device>(index: &mut Index<Store<D>>) -> CallAnswer
     ensures steps { Continues ⟦<Store<D> as PageStore>⟧.follows index.old.store index.new.store }
     ensures means { Advances ⟦<Store<D> as PageStore>⟧ result index.old index.new }
     ensures quiet { result.is_durable ≡ false }
@@ -163,7 +163,7 @@ fn advance<D: Device>(index: &mut Index<Store<D>>) -> Answer
     advanced(index.advance_commit())
 }
 
-fn advanced(outcome: Result<Advance, Fault>) -> Answer
+fn advanced(outcome: Result<Advance, Fault>) -> CallAnswer
     ensures told { Tells AnswersPartOfCommit outcome result }
     ensures quiet { result.is_durable ≡ false }
 {
@@ -173,10 +173,10 @@ fn advanced(outcome: Result<Advance, Fault>) -> Answer
         Ok(Advance::Opened) => 2,
         Err(fault) => return refused(fault),
     };
-    Answer { number, ..DONE }
+    CallAnswer { number, ..DONE }
 }
 
-fn done(outcome: Result<(), Fault>) -> Answer
+fn done(outcome: Result<(), Fault>) -> CallAnswer
     ensures told { Tells AnswersNothing outcome result }
     ensures quiet { result.is_durable ≡ false }
 {
@@ -187,7 +187,7 @@ fn done(outcome: Result<(), Fault>) -> Answer
 }
 
 // Closes a scan.
-fn close<S: PageStore>(index: &mut Index<S>, ask: &Ask) -> Answer
+fn close<S: PageStore>(index: &mut Index<S>, ask: &Ask) -> CallAnswer
     ensures steps { Continues S.follows index.old.store index.new.store }
     ensures means { ClosesHandle S.PageStore ask.now result index.old index.new }
     ensures quiet { result.is_durable ≡ false }
@@ -196,7 +196,7 @@ fn close<S: PageStore>(index: &mut Index<S>, ask: &Ask) -> Answer
 }
 
 // Names a row that the next bulk delete takes.
-fn name(alloc: Global, dead: &mut RowSet, ask: &Ask) -> Answer
+fn name(alloc: Global, dead: &mut RowSet, ask: &Ask) -> CallAnswer
     ensures means { Names ask.now result dead.old dead.new }
     ensures quiet { result.is_durable ≡ false }
 {
@@ -211,7 +211,7 @@ fn name(alloc: Global, dead: &mut RowSet, ask: &Ask) -> Answer
 }
 
 // Deletes all entries of the rows that were named, and forgets these.
-fn delete<S: PageStore>(index: &mut Index<S>, dead: &mut RowSet) -> Answer
+fn delete<S: PageStore>(index: &mut Index<S>, dead: &mut RowSet) -> CallAnswer
     ensures steps { Continues S.follows index.old.store index.new.store }
     ensures means { Deletes S.PageStore dead.old result index.old index.new }
     ensures forgotten { dead.new.rows ≡ None }
@@ -222,7 +222,7 @@ fn delete<S: PageStore>(index: &mut Index<S>, dead: &mut RowSet) -> Answer
     stats_answer(outcome)
 }
 
-fn stats_answer(outcome: Result<VacuumStats, Fault>) -> Answer
+fn stats_answer(outcome: Result<VacuumStats, Fault>) -> CallAnswer
     ensures told { Tells SpellsStats outcome result }
     ensures quiet { result.is_durable ≡ false }
 {
@@ -233,7 +233,7 @@ fn stats_answer(outcome: Result<VacuumStats, Fault>) -> Answer
 }
 
 // Deletes empty leaves, and counts what is there.
-fn clean_up<S: PageStore>(index: &mut Index<S>) -> Answer
+fn clean_up<S: PageStore>(index: &mut Index<S>) -> CallAnswer
     ensures steps { Continues S.follows index.old.store index.new.store }
     ensures means { CleansIndex S.PageStore result index.old index.new }
     ensures quiet { result.is_durable ≡ false }
@@ -242,7 +242,7 @@ fn clean_up<S: PageStore>(index: &mut Index<S>) -> Answer
 }
 
 // Begins to delete all entries of the rows that were named, in parts, and forgets these.
-fn begin_delete<S: PageStore>(index: &mut Index<S>, dead: &mut RowSet) -> Answer
+fn begin_delete<S: PageStore>(index: &mut Index<S>, dead: &mut RowSet) -> CallAnswer
     ensures steps { Continues S.follows index.old.store index.new.store }
     ensures means { BeginsDelete S.PageStore dead.old result index.old index.new }
     ensures forgotten { dead.new.rows ≡ None }
@@ -253,7 +253,7 @@ fn begin_delete<S: PageStore>(index: &mut Index<S>, dead: &mut RowSet) -> Answer
 }
 
 // Begins to clean up, in parts.
-fn begin_clean_up<S: PageStore>(index: &mut Index<S>) -> Answer
+fn begin_clean_up<S: PageStore>(index: &mut Index<S>) -> CallAnswer
     ensures steps { Continues S.follows index.old.store index.new.store }
     ensures means { BeginsCleanup S.PageStore result index.old index.new }
     ensures quiet { result.is_durable ≡ false }
@@ -262,7 +262,7 @@ fn begin_clean_up<S: PageStore>(index: &mut Index<S>) -> Answer
 }
 
 // So many steps more of what goes on in parts.
-fn go_on<S: PageStore>(index: &mut Index<S>, ask: &Ask) -> Answer
+fn go_on<S: PageStore>(index: &mut Index<S>, ask: &Ask) -> CallAnswer
     ensures steps { Continues S.follows index.old.store index.new.store }
     ensures means { GoesOn S.PageStore ask.now.block result index.old index.new }
     ensures quiet { result.is_durable ≡ false }
@@ -270,12 +270,12 @@ fn go_on<S: PageStore>(index: &mut Index<S>, ask: &Ask) -> Answer
     part_answer(index.vacuum(ask.block))
 }
 
-fn part_answer(outcome: Result<Option<VacuumStats>, Fault>) -> Answer
+fn part_answer(outcome: Result<Option<VacuumStats>, Fault>) -> CallAnswer
     ensures told { Tells AnswersPart outcome result }
     ensures quiet { result.is_durable ≡ false }
 {
     match outcome {
-        Ok(Some(stats)) => Answer {
+        Ok(Some(stats)) => CallAnswer {
             session: 1,
             ..counted(&stats)
         },
@@ -285,7 +285,7 @@ fn part_answer(outcome: Result<Option<VacuumStats>, Fault>) -> Answer
 }
 
 // Ends what goes on in parts. Its rows are spent: those that were so before are freed.
-fn end_vacuum<S: PageStore>(index: &mut Index<S>, spent: &mut RowSet) -> Answer
+fn end_vacuum<S: PageStore>(index: &mut Index<S>, spent: &mut RowSet) -> CallAnswer
     ensures steps { Continues S.follows index.old.store index.new.store }
     ensures means { EndsVacuum S.PageStore result index.old index.new spent.old spent.new }
     ensures quiet { result.is_durable ≡ false }
@@ -304,7 +304,7 @@ fn ended(outcome: Result<RowSet, Fault>, spent: &mut RowSet) -> Result<(), Fault
 }
 
 // Makes all that was done durable.
-fn commit<S: PageStore>(index: &mut Index<S>) -> Answer
+fn commit<S: PageStore>(index: &mut Index<S>) -> CallAnswer
     ensures steps { Continues S.follows index.old.store index.new.store }
     ensures means { MakesDurable S.PageStore Forces result index.old index.new }
     ensures durable { result.is_durable ≡ true
@@ -314,7 +314,7 @@ fn commit<S: PageStore>(index: &mut Index<S>) -> Answer
 }
 
 // Makes all that was done durable, and writes all pages to their places.
-fn checkpoint<S: PageStore>(index: &mut Index<S>) -> Answer
+fn checkpoint<S: PageStore>(index: &mut Index<S>) -> CallAnswer
     ensures steps { Continues S.follows index.old.store index.new.store }
     ensures means { MakesDurable S.PageStore Checkpoints result index.old index.new }
     ensures durable { result.is_durable ≡ true
@@ -323,11 +323,11 @@ fn checkpoint<S: PageStore>(index: &mut Index<S>) -> Answer
     durable(index.checkpoint())
 }
 
-fn durable(outcome: Result<u64, Fault>) -> Answer
+fn durable(outcome: Result<u64, Fault>) -> CallAnswer
     ensures { Tells AnswersDurable outcome result }
 {
     match outcome {
-        Ok(number) => Answer {
+        Ok(number) => CallAnswer {
             number,
             is_durable: true,
             ..DONE

@@ -1,7 +1,7 @@
 //! How large what C shares is: `embedding/nardsill.c` states the same numbers, and where the last field of
 //! each lies.
 
-use crate::answer::{Answer, Given};
+use crate::answer::{CallAnswer, Given};
 use crate::ask::{Ask, MakeAsk, OpenAsk, Token};
 use crate::checking::{CheckAsk, Checked};
 use crate::facts::Facts;
@@ -15,7 +15,7 @@ const _: () = prove!(size_of::<OpenFiles>() == 8);
 
 const _: () = prove!(size_of::<MakeAsk>() == 20);
 
-const _: () = prove!(size_of::<Answer>() == 64);
+const _: () = prove!(size_of::<CallAnswer>() == 64);
 
 const _: () = prove!(size_of::<Token>() == 16);
 

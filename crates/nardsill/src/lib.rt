@@ -37,7 +37,7 @@ mod making;
 mod opening;
 mod sharing;
 
-use crate::answer::{Answer, Given};
+use crate::answer::{CallAnswer, Given};
 use crate::ask::{Ask, MakeAsk, OpenAsk, Token};
 use crate::calls::serve;
 use crate::checking::{CheckAsk, Checked, check};
@@ -84,7 +84,7 @@ pub unsafe extern "C" fn nardsill_proved_make(
     at: *mut Shell,
     file: *mut File,
     ask: MakeAsk,
-) -> Answer
+) -> CallAnswer
     ghost both: { Handle × File }
     requires* handle { sem 𝓛 (lies_at the_row full_share at both.0) }
     requires* file { sem 𝓛 (lies_at file_row full_share file both.1) }
@@ -105,7 +105,7 @@ pub unsafe extern "C" fn nardsill_proved_take(
     at: *mut Shell,
     files: *mut OpenFiles,
     ask: OpenAsk,
-) -> Answer
+) -> CallAnswer
     ghost both: { Handle × OpenFiles }
     requires* handle { sem 𝓛 (lies_at the_row full_share at both.0) }
     requires* files { sem 𝓛 (lies_at files_row full_share files both.1) }
@@ -128,7 +128,7 @@ pub unsafe extern "C" fn nardsill_proved_share(
     at: *mut Shell,
     from: *mut Shell,
     ask: OpenAsk,
-) -> Answer
+) -> CallAnswer
     ghost both: { Handle × Handle }
     requires* handle { sem 𝓛 (lies_at the_row full_share at both.0) }
     requires* from { sem 𝓛 (lies_at the_row full_share from both.1) }
@@ -145,7 +145,7 @@ pub unsafe extern "C" fn nardsill_proved_share(
 
 /// One call, whatever it asks for.
 #[unsafe(no_mangle)]
-pub unsafe extern "C" fn nardsill_proved_call(at: *mut Shell, ask: Ask) -> Answer
+pub unsafe extern "C" fn nardsill_proved_call(at: *mut Shell, ask: Ask) -> CallAnswer
     ghost value: { Handle }
     requires* { sem 𝓛 (lies_at the_row full_share at value) }
     ensures* { ∃ₛ (λ (v : Handle). sem 𝓛 (lies_at the_row full_share at v) ∗ ⌜ IsServed

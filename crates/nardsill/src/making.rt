@@ -3,7 +3,7 @@
 ghost use Rattle.std.specs.Prelude.{◌≡◌, IfOk, IfErr};
 ghost use Rattle.nardsill.specs.Making.{IsMade, IsMadeBy, IsMakeFault};
 
-use crate::answer::{Answer, DONE, refused};
+use crate::answer::{CallAnswer, DONE, refused};
 use crate::ask::MakeAsk;
 use crate::handle::Handle;
 use crate::opening::own;
@@ -18,7 +18,7 @@ use std::os::fd::AsRawFd;
 /// Refused with `BadVersion` (15) where the file isn't stored as the number that C told: this library and
 /// that C don't fit. Refused with `BadLimits` (18), and then nothing is changed; and with `Io` (2), and then
 /// it isn't known what the file holds. What the handle has stays.
-pub fn make(handle: &mut Handle, file: &mut File, ask: MakeAsk) -> Answer
+pub fn make(handle: &mut Handle, file: &mut File, ask: MakeAsk) -> CallAnswer
     ensures { (file.new ≡ file.old) × (handle.new ≡ handle.old)
         × IsMade ⟦<FileDevice<Zeros> as Device>⟧ ask result }
 {
@@ -32,7 +32,7 @@ pub fn make(handle: &mut Handle, file: &mut File, ask: MakeAsk) -> Answer
 }
 
 // The answer to a making in a file.
-fn made_in(file: File, ask: &MakeAsk) -> Answer
+fn made_in(file: File, ask: &MakeAsk) -> CallAnswer
     ensures { IsMade ⟦<FileDevice<Zeros> as Device>⟧ ask.now result }
 {
     match made(file, ask) {

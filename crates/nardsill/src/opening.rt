@@ -4,7 +4,7 @@ ghost use Rattle.std.specs.Prelude.{◌≡◌, IfErr, IfOk};
 ghost use Rattle.access_method.specs.Files.{IsOpenFault};
 ghost use Rattle.nardsill.specs.Taking.{BeginsWithFile, IsTaken};
 
-use crate::answer::{Answer, DONE, refused};
+use crate::answer::{CallAnswer, DONE, refused};
 use crate::ask::OpenAsk;
 use crate::handle::Handle;
 use access_method::Index;
@@ -29,7 +29,7 @@ pub struct OpenFiles {
 /// a forked child to close. Refused with `BadVersion` (15) where the file isn't stored as the number that C
 /// told: this library and that C don't fit. Refused else as the opening is; what is opened already stays
 /// then.
-pub fn take(handle: &mut Handle, files: &mut OpenFiles, ask: OpenAsk) -> Answer
+pub fn take(handle: &mut Handle, files: &mut OpenFiles, ask: OpenAsk) -> CallAnswer
     ensures { (files.new ≡ files.old)
         × IsTaken ⟦<FileDevice<Unknown> as Device>⟧ ⟦<Store<FileDevice<Unknown>> as PageStore>⟧
         ⟦<Unknown as Start>⟧.bytes result
@@ -47,7 +47,7 @@ pub fn take(handle: &mut Handle, files: &mut OpenFiles, ask: OpenAsk) -> Answer
         Ok((index, syncer)) => {
             handle.index = Some(index);
             handle.syncer = syncer;
-            Answer { descriptor, ..DONE }
+            CallAnswer { descriptor, ..DONE }
         }
         Err(fault) => refused(fault),
     }

@@ -3,7 +3,7 @@
 ghost use Rattle.std.specs.Prelude.{◌≡◌};
 ghost use Rattle.nardsill.specs.Sharing.{IsShared};
 
-use crate::answer::{Answer, DONE, refused};
+use crate::answer::{CallAnswer, DONE, refused};
 use crate::ask::OpenAsk;
 use crate::handle::Handle;
 use index_model::Fault;
@@ -12,7 +12,7 @@ use index_model::Fault;
 /// makes calls of `from`. Tells the descriptor of the open file by which it syncs, for a forked child to
 /// close. Nothing of what is asked is read. Refused with `NoSession` (12) if `from` has no index, or none
 /// that was opened with a second open file; and with `NoMemory` (1): nothing is changed then.
-pub fn share(handle: &mut Handle, from: &mut Handle, _ask: OpenAsk) -> Answer
+pub fn share(handle: &mut Handle, from: &mut Handle, _ask: OpenAsk) -> CallAnswer
     ensures { (from.new ≡ from.old)
         × IsShared result handle.old.index handle.new.index handle.old.dead handle.new.dead }
 {
@@ -23,7 +23,7 @@ pub fn share(handle: &mut Handle, from: &mut Handle, _ask: OpenAsk) -> Answer
         Ok(syncer) => {
             let descriptor = syncer.descriptor();
             handle.syncer = Some(syncer);
-            Answer { descriptor, ..DONE }
+            CallAnswer { descriptor, ..DONE }
         }
         Err(_) => refused(Fault::NoMemory),
     }

@@ -102,15 +102,15 @@ add_waits waiting pages counted page waits same room =
     (added pages (length counted) page (sym same)) (added counted (length counted) 0 refl) (no_count_waits page.state)
 
 -- ... after pages are written
-pub write_waits : (limits : Format) (used : ℕ) (waiting : List (Option ℕ)) (pages : List Page) (counted : List ℕ) (changed : List Page)
-    → AreActable limits used changed → used ≤ length pages → limits.pages ≤ length waiting → length counted ≡ length pages
+pub write_waits : (format : Format) (used : ℕ) (waiting : List (Option ℕ)) (pages : List Page) (counted : List ℕ) (changed : List Page)
+    → AreActable format used changed → used ≤ length pages → format.pages ≤ length waiting → length counted ≡ length pages
     → AreWaiting waiting pages counted → AreWaiting (with_all_waiting waiting changed) (with_pages pages changed) (with_counts counted changed)
-write_waits limits used waiting pages counted [] may most room same waits = waits
-write_waits limits used waiting pages counted (page ∷ changed) may most room same waits =
+write_waits format used waiting pages counted [] may most room same waits = waits
+write_waits format used waiting pages counted (page ∷ changed) may most room same waits =
     let place : page.block ≤ length pages = omega (arith, may.1.0) in
     let at = put_waits waiting pages (with_page pages page) counted (with_count counted page) page.block (number_to_count page.state page.deletion) page (waiting_number page.state page.deletion)
     waits (omega (arith, may.1.1)) (puts_page pages page place) (puts_count counted page (omega arith)) (count_waits page.state page.deletion) in
-    write_waits limits used (with_waiting waiting page) (with_page pages page) (with_count counted page) changed may.3 (omega (arith, with_page-longer limits pages page may.0.storable place))
+    write_waits format used (with_waiting waiting page) (with_page pages page) (with_count counted page) changed may.3 (omega (arith, with_page-longer format pages page may.0.storable place))
     (omega (arith, length-set waiting page.block (waiting_number page.state page.deletion))) (length-with_count counted pages page same) at
 
 -- if nothing is in use, nothing waits
@@ -159,9 +159,9 @@ and_left true b h = refl
 and_left false b h = h
 
 -- which of these calls' pages may be reused is told by the numbers that wait
-module _ (limits : Format) (frames acts : ℕ) (pages : List Page) (calls : TableOfCalls) (waits : AreWaiting calls.waiting pages calls.counted) where
+module _ (format : Format) (frames acts : ℕ) (pages : List Page) (calls : TableOfCalls) (waits : AreWaiting calls.waiting pages calls.counted) where
   abbrev st : State
-  st = state_with limits frames pages acts calls
+  st = state_with format frames pages acts calls
 
   abbrev may_pass : ℕ → Bool
   may_pass block = is_at_most (least_start calls.running) (number_at calls.waiting block)
@@ -174,7 +174,7 @@ module _ (limits : Format) (frames acts : ℕ) (pages : List Page) (calls : Tabl
       split true = least_decides (slice_index calls.counted block) 0 calls.running
       split false = refl
 
-  pub lowest_is_fresh : (block : ℕ) → length pages ≤ limits.pages → IsLowest (least_start calls.running) calls.waiting block → IsFresh st block
+  pub lowest_is_fresh : (block : ℕ) → length pages ≤ format.pages → IsLowest (least_start calls.running) calls.waiting block → IsFresh st block
   lowest_is_fresh block few h =
       let reusable : is_reusable st block ≡ true = sym (decides block) ∙ h.at_most in
       let used = deleted_in_use pages block (and_left (is_deleted pages block) _ reusable) in
@@ -185,7 +185,7 @@ module _ (limits : Format) (frames acts : ℕ) (pages : List Page) (calls : Tabl
         inside = omega arith;
       }
 
-  pub next_is_fresh : length pages < limits.pages → AreBeyond (least_start calls.running) calls.waiting → IsFresh st (length pages)
+  pub next_is_fresh : length pages < format.pages → AreBeyond (least_start calls.running) calls.waiting → IsFresh st (length pages)
   next_is_fresh few h = record {
     lowest = λ b lt. sym (decides b) ∙ h b;
     within = omega arith;
@@ -193,5 +193,5 @@ module _ (limits : Format) (frames acts : ℕ) (pages : List Page) (calls : Tabl
     inside = few;
   }
 
-  pub none_is_full : limits.pages ≤ length pages → AreBeyond (least_start calls.running) calls.waiting → IsFull st
+  pub none_is_full : format.pages ≤ length pages → AreBeyond (least_start calls.running) calls.waiting → IsFull st
   none_is_full all h = record { used = all; none = λ b lt. sym (decides b) ∙ h b }

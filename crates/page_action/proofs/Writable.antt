@@ -12,8 +12,8 @@ admits_two One = tt
 admits_two Two = tt
 
 -- a page of it may be written, if the format admits it and it has no more items than a page may
-pub writable : (limits : Format) (page : Page) → page.layout ≡ Two → IsPage page → count_of page.items ≤ limits.items → IsWritable limits page
-writable limits page new admitted few = record {
-  storable = record { admitted = admitted; few = few; layout = subst (Admits limits.layout) (sym new) (admits_two limits.layout) };
+pub writable : (format : Format) (page : Page) → page.layout ≡ Two → IsPage page → count_of page.items ≤ format.items → IsWritable format page
+writable format page new admitted few = record {
+  storable = record { admitted = admitted; few = few; layout = subst (Admits format.layout) (sym new) (admits_two format.layout) };
   new = new;
 }

@@ -34,10 +34,10 @@ pub record CostsNothing (m m' : Memory) (old new : Backing) : Type 0 where
 
 -- after the first ones of the order the next was written, and some right after it, of which none is pinned
 -- and each is durable: at most a quarter of what there are frames
-pub record AreWrittenAfter (frames : ℕ) (pinned front behind : List ℕ) (m : Memory) (new : Backing) : Type 0 where
+pub record AreWrittenAfter (frames : ℕ) (pinned front later : List ℕ) (m : Memory) (new : Backing) : Type 0 where
   pub more : List ℕ
   pub rest : List ℕ
-  pub was : behind ≡ more ++ rest
+  pub was : later ≡ more ++ rest
   pub left : new.changed ≡ front ++ rest
   pub few : length more ≤ frames / 4
   pub each : All (λ b. (is_block_among pinned b ≡ false) × (m.unwritten b ≤ new.durable)) more
@@ -50,12 +50,12 @@ pub record IsWrittenFor (frames : ℕ) (pinned : List ℕ) (m m' : Memory) (old 
   pub clean : All (λ b. is_block_among old.changed b ≡ false → is_block_among pinned b ≡ true) m.held
   pub front : List ℕ
   pub block : ℕ
-  pub behind : List ℕ
-  pub was : old.changed ≡ front ++ block ∷ behind
+  pub later : List ℕ
+  pub was : old.changed ≡ front ++ block ∷ later
   pub passed : All (λ b. is_block_among pinned b ≡ true) front
   pub unpinned : is_block_among pinned block ≡ false
   pub forced : m.unwritten block ≤ old.durable → LogStays old new
-  pub left : (new.changed ≡ old.changed) ⊎ AreWrittenAfter frames pinned front behind m new
+  pub left : (new.changed ≡ old.changed) ⊎ AreWrittenAfter frames pinned front later m new
   pub others : (b : ℕ) → is_block_among new.changed b ≡ true → m'.unwritten b ≡ m.unwritten b
 
 -- what a frame costs: nothing if one is free; else changed pages are written for it

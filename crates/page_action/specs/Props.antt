@@ -114,11 +114,11 @@ IsOfKind-prop p (Downlinks v) = IsInternal-prop p v.items
 IsPage-prop : (p : Page) → IsProp (IsPage p)
 IsPage-prop p = hlevel (props, IfBound-prop p.layout p.high, IsOfKind-prop p p.items)
 
-pub IsStored-prop : (limits : Format) (block : ℕ) (p : Page) → IsProp (IsStored limits block p)
-IsStored-prop limits block p = hlevel (props, IsPage-prop p, Admits-prop limits.layout p.layout)
+pub IsStored-prop : (format : Format) (block : ℕ) (p : Page) → IsProp (IsStored format block p)
+IsStored-prop format block p = hlevel (props, IsPage-prop p, Admits-prop format.layout p.layout)
 
-pub AreStored-prop : (limits : Format) (block : ℕ) (pages : List Page)
-    → IsProp (AreStored limits block pages)
-AreStored-prop limits block [] = Unit-prop
-AreStored-prop limits block (page ∷ pages) =
-    ×_prop (IsStored-prop limits block page) (AreStored-prop limits (suc block) pages)
+pub AreStored-prop : (format : Format) (block : ℕ) (pages : List Page)
+    → IsProp (AreStored format block pages)
+AreStored-prop format block [] = Unit-prop
+AreStored-prop format block (page ∷ pages) =
+    ×_prop (IsStored-prop format block page) (AreStored-prop format (suc block) pages)

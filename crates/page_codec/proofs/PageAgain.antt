@@ -81,10 +81,10 @@ pub record HasFields (p : Page) (bytes : List ℕ) : Type 0 where
   pub deletion : little_number 8 (drop 24 bytes) ≡ p.deletion
   pub count : little_number 2 (drop 32 bytes) ≡ count_of p.items
 
-head_has : (p : Page) (behind : List ℕ) → IsPage p → HasFields p (head_bytes p ++ behind)
+head_has : (p : Page) (more : List ℕ) → IsPage p → HasFields p (head_bytes p ++ more)
 unfolding head_bytes
-head_has p behind h =
-    let whole : List ℕ = head_bytes p ++ behind in
+head_has p more h =
+    let whole : List ℕ = head_bytes p ++ more in
     record {
       layout = refl;
       block = little_number-reads_back 4 p.block (drop 8 whole) (block_fits p p.items h.kind);

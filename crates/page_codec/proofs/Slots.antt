@@ -107,8 +107,8 @@ length_of_downlink d h = omega (arith, length-slot d.bound h, length-append (slo
 
 bound_is_no_zeros : (key : List ℕ) (r : Option Row) (bytes : List ℕ) → length key ≤ 64 → IsRowIn Two key r → Begins (length key ∷ padded key) bytes
     → Begins (row_bytes r) (drop 65 bytes) → Begins (replicate 71 0) bytes → ⊥
-bound_is_no_zeros key None bytes fits h front behind zeros = key_is_no_zeros key bytes h fits front zeros
-bound_is_no_zeros key (Some r) bytes fits h front behind zeros = row_is_no_zeros r (drop 65 bytes) h behind (begins_after (replicate 65 0) (replicate 6 0) bytes 65 refl zeros)
+bound_is_no_zeros key None bytes fits h front row_after zeros = key_is_no_zeros key bytes h fits front zeros
+bound_is_no_zeros key (Some r) bytes fits h front row_after zeros = row_is_no_zeros r (drop 65 bytes) h row_after (begins_after (replicate 65 0) (replicate 6 0) bytes 65 refl zeros)
 
 -- if zeros stand there is no bound
 pub none_there : (b : Option Bound) (bytes : List ℕ) → IfSome b (IsBoundIn Two) → Begins (slot_bytes b) bytes → Begins (replicate 71 0) bytes → None ≡ b

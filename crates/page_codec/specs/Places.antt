@@ -21,10 +21,10 @@ unique_number false = 0
 
 -- the first 4,096 bytes: `BLINKIDX`, the layout, the sizes, whether the index is unique, zeros
 unfoldable pub superblock : Format → List ℕ
-superblock limits =
+superblock format =
     magic
-    ++ to_le_bytes w32 (layout_number limits.layout) ++ to_le_bytes w32 limits.items ++ to_le_bytes w32 limits.pages
-    ++ to_le_bytes w32 limits.log_bytes ++ to_le_bytes w32 (unique_number limits.unique) ++ replicate 4068 0
+    ++ to_le_bytes w32 (layout_number format.layout) ++ to_le_bytes w32 format.items ++ to_le_bytes w32 format.pages
+    ++ to_le_bytes w32 format.log_bytes ++ to_le_bytes w32 (unique_number format.unique) ++ replicate 4068 0
 
 -- where the log begins: after the superblock
 abbrev pub log_start : ℕ
@@ -32,12 +32,12 @@ log_start = 4096
 
 -- where it ends
 abbrev pub log_end : Format → ℕ
-log_end limits = log_start + limits.log_bytes
+log_end format = log_start + format.log_bytes
 
 -- where the page of a block lies
 abbrev pub place : Format → ℕ → ℕ
-place limits block = log_end limits + 4096 * block
+place format block = log_end format + 4096 * block
 
 -- how many bytes an index takes: up to the end of its last page
 abbrev pub needed_length : Format → ℕ
-needed_length limits = place limits limits.pages
+needed_length format = place format format.pages

@@ -115,12 +115,12 @@ pub fn cut_entries(page: &mut Page, at: usize) -> ArrayVec<Entry, 50>
     requires leaf { HasEntries page.old.items }
     requires place { at ≤ length (entries_of page.old.items) }
     ensures kept { page.new ≡ with_entries page.old (take at (entries_of page.old.items)) }
-    ensures behind { result.items ≡ drop at (entries_of page.old.items) }
+    ensures right_part { result.items ≡ drop at (entries_of page.old.items) }
 {
-    let mut behind = ArrayVec::new();
+    let mut right_part = ArrayVec::new();
     if let Items::Entries(entries) = &mut page.items {
-        let _ = behind.try_extend_from_slice(&entries.as_slice()[at..]);
+        let _ = right_part.try_extend_from_slice(&entries.as_slice()[at..]);
         entries.truncate(at);
     }
-    behind
+    right_part
 }

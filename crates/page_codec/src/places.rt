@@ -10,10 +10,10 @@ use index_model::{Format, Limits};
 pub const LOG_START: u64 = 4_096;
 
 /// Where the page of a block lies: 4,096 bytes for each block, after the log.
-pub fn page_place(limits: &Format, block: u32) -> u64
-    ensures { result ≡ place limits.now block }
+pub fn page_place(format: &Format, block: u32) -> u64
+    ensures { result ≡ place format.now block }
 {
-    LOG_START + limits.log_bytes as u64 + 4_096 * block as u64
+    LOG_START + format.log_bytes as u64 + 4_096 * block as u64
 }
 
 /// How many bytes an index of these sizes takes, up to the end of its last page.

@@ -101,11 +101,11 @@ fn slot(bytes: &[u8]) -> Option<Option<Bound>>
         return Some(None);
     }
     let key = key_at(bytes)?;
-    let behind = tail(bytes, 65);
-    if begins_with(behind, &[0; 6]) {
+    let after_key = tail(bytes, 65);
+    if begins_with(after_key, &[0; 6]) {
         return Some(Some(Bound { key, row: None }));
     }
-    let row = row_at(behind)?;
+    let row = row_at(after_key)?;
     Some(Some(Bound {
         key,
         row: Some(row),

@@ -127,24 +127,24 @@ module _ (st : State) (session : ℕ) (page right : Page) (order : IsInOrder st)
   right_page : IsPage (record right { layout = Two; left = page.left })
   right_page = mended_left (renewed right) page.left page.block (renewed_is_page right right_taken.taken.stored.storable.admitted) right_taken.links admitted.left
 
-  module _ (inside : length st.pages ≤ st.limits.pages) (number : ℕ) (low : number < 2 ^ 64) where
-    gone_writable : IsWritable st.limits (as_deleted page number)
-    gone_writable = writable st.limits (as_deleted page number) refl (deleted_is_page page number admitted dead low) (omega arith)
+  module _ (inside : length st.pages ≤ st.format.pages) (number : ℕ) (low : number < 2 ^ 64) where
+    gone_writable : IsWritable st.format (as_deleted page number)
+    gone_writable = writable st.format (as_deleted page number) refl (deleted_is_page page number admitted dead low) (omega arith)
 
-    two_may : AreActable st.limits (length st.pages) (as_deleted page number ∷ record right { layout = Two; left = page.left } ∷ [])
+    two_may : AreActable st.format (length st.pages) (as_deleted page number ∷ record right { layout = Two; left = page.left } ∷ [])
     two_may =
         let u = taken.used in
         let v = right_taken.taken.used in (
           gone_writable,
           (omega arith, omega arith),
           ((λ same. right_apart_here (sym same)), tt),
-          (writable st.limits (record right { layout = Two; left = page.left }) refl right_page right_taken.taken.stored.storable.few, (omega arith, omega arith), tt, tt),
+          (writable st.format (record right { layout = Two; left = page.left }) refl right_page right_taken.taken.stored.storable.few, (omega arith, omega arith), tt, tt),
         )
 
-    pub may_unlink : (left : Option Page) → IsTakenLeft st true session page page.left left → AreActable st.limits (length st.pages) (unlinked left page right number)
+    pub may_unlink : (left : Option Page) → IsTakenLeft st true session page page.left left → AreActable st.format (length st.pages) (unlinked left page right number)
     may_unlink left taken_left = by page.left refl left taken_left
       where
-        by : (link : Option ℕ) → page.left ≡ link → (left : Option Page) → IsTakenLeft st true session page link left → AreActable st.limits (length st.pages) (unlinked left page right number)
+        by : (link : Option ℕ) → page.left ≡ link → (left : Option Page) → IsTakenLeft st true session page link left → AreActable st.format (length st.pages) (unlinked left page right number)
         by None is None t = two_may
         by None is (Some l) t = absurd t
         by (Some b) is None t = absurd t
@@ -152,7 +152,7 @@ module _ (st : State) (session : ℕ) (page right : Page) (order : IsInOrder st)
             let u = t.0.used in
             let block_is : l.block ≡ b = t.0.stored.block_is in
             let link : page.left ≡ Some l.block = is ∙ ap Some (sym block_is) in (
-              writable st.limits (record l { layout = Two; right = Some right.block }) refl
+              writable st.format (record l { layout = Two; right = Some right.block }) refl
                   (mended_right (renewed l) right.block (renewed_is_page l t.0.stored.storable.admitted)
                   (subst (λ (o : Option ℕ). IsSome o) (sym t.1) refl) (subst (λ (o : Option ℕ). IfSome o IsBlock) right_is admitted.right))
                   t.0.stored.storable.few,
@@ -183,11 +183,11 @@ module _ (st : State) (session : ℕ) (page right : Page) (order : IsInOrder st)
           edit = goes_edit page.block above taken.used (unlink_edit st page right (as_deleted page st.begun) (record right { layout = Two; left = page.left }) mended order.tree is);
         }
 
-    pub does_unlink : (left : Option Page) → IsTakenLeft st true session page page.left left → AreActable st.limits (length st.pages) (unlinked left page right st.begun)
+    pub does_unlink : (left : Option Page) → IsTakenLeft st true session page page.left left → AreActable st.format (length st.pages) (unlinked left page right st.begun)
         → DeletesOn session st (after_act (unlinked left page right st.begun) st)
     does_unlink left taken_left may = by page.left refl left taken_left may
       where
-        by : (link : Option ℕ) → page.left ≡ link → (left : Option Page) → IsTakenLeft st true session page link left → AreActable st.limits (length st.pages) (unlinked left page right st.begun)
+        by : (link : Option ℕ) → page.left ≡ link → (left : Option Page) → IsTakenLeft st true session page link left → AreActable st.format (length st.pages) (unlinked left page right st.begun)
             → DeletesOn session st (after_act (unlinked left page right st.begun) st)
         by None is None t may = unlinks [] (record {
           found = taken.found refl;

@@ -42,7 +42,7 @@ pub record AreDying (leaf parent leaf_after parent_after : Page) (at : ℕ) : Ty
 
 pub dies : (st : State) (session : ℕ) (leaf parent leaf_after parent_after : Page) (right at : ℕ) → IsInOrder st → IsCandidate st true session leaf.block leaf → SiblingsAllow st.pages leaf right
     → IsTakenToChange st true session parent.block parent → IsHandingOn parent leaf.block right at → AreDying leaf parent leaf_after parent_after at
-    → AreActable st.limits (length st.pages) (leaf_after ∷ parent_after ∷ []) → DeletesOn session st (after_act (leaf_after ∷ parent_after ∷ []) st)
+    → AreActable st.format (length st.pages) (leaf_after ∷ parent_after ∷ []) → DeletesOn session st (after_act (leaf_after ∷ parent_after ∷ []) st)
 dies st session leaf parent leaf_after parent_after right at order candidate allow taken place dying may =
     let lasts = half_death_lasts st leaf allow.page parent leaf_after parent_after order.tree is in
     record {
@@ -62,7 +62,7 @@ dies st session leaf parent leaf_after parent_after right at order candidate all
     }
   where
     right_block : allow.page.block ≡ right
-    right_block = (stored_page st.limits right st.pages allow.page order.tree.stored allow.found).block_is
+    right_block = (stored_page st.format right st.pages allow.page order.tree.stored allow.found).block_is
 
     handed : IsLinkHandedOn leaf.block allow.page.block (links_of parent.items) (links_of parent_after.items)
     handed = subst (λ (r : ℕ). IsLinkHandedOn leaf.block r (links_of parent.items) (links_of parent_after.items)) (place.place.next ∙ sym right_block)
@@ -93,20 +93,20 @@ links_no_leaf (Entries v) a b = b
 links_no_leaf (Downlinks v) a b = a
 
 -- the act may be done
-pub may_die_so : (st : State) (session : ℕ) (leaf parent leaf_after parent_after : Page) (right at : ℕ) → length st.pages ≤ st.limits.pages → IsCandidate st true session leaf.block leaf
+pub may_die_so : (st : State) (session : ℕ) (leaf parent leaf_after parent_after : Page) (right at : ℕ) → length st.pages ≤ st.format.pages → IsCandidate st true session leaf.block leaf
     → IsTakenToChange st true session parent.block parent → IsHandingOn parent leaf.block right at
     → leaf_after ≡ record leaf { layout = Two; state = HalfDead } → parent_after.block ≡ parent.block → parent_after.layout ≡ Two → IsPage leaf_after → IsPage parent_after
-    → count_of parent_after.items ≤ count_of parent.items → AreActable st.limits (length st.pages) (leaf_after ∷ parent_after ∷ [])
+    → count_of parent_after.items ≤ count_of parent.items → AreActable st.format (length st.pages) (leaf_after ∷ parent_after ∷ [])
 may_die_so st session leaf parent leaf_after parent_after right at few candidate taken place leaf_is block_is layout_is leaf_page parent_page less =
     let leaf_block : leaf_after.block ≡ leaf.block = ap (λ (p : Page). p.block) leaf_is in
     let leaf_few = candidate.stored.storable.few in
     let parent_few = taken.stored.storable.few in
     let leaf_used = candidate.used in
     let parent_used = taken.used in (
-      writable st.limits leaf_after (ap (λ (p : Page). p.layout) leaf_is) leaf_page (subst (λ (p : Page). count_of p.items ≤ st.limits.items) (sym leaf_is) leaf_few),
+      writable st.format leaf_after (ap (λ (p : Page). p.layout) leaf_is) leaf_page (subst (λ (p : Page). count_of p.items ≤ st.format.items) (sym leaf_is) leaf_few),
       (omega arith, omega arith),
       ((λ same. apart (sym (sym block_is ∙ same ∙ leaf_block))), tt),
-      (writable st.limits parent_after layout_is parent_page (omega arith), (omega arith, omega arith), tt, tt),
+      (writable st.format parent_after layout_is parent_page (omega arith), (omega arith, omega arith), tt, tt),
     )
   where
     apart : leaf.block ≢ parent.block

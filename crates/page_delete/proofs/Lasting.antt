@@ -29,12 +29,12 @@ undisturbed old new op rely fits = record {
   at = underway_still old new fits.start op.cursor op.at (rely.numbers fits.start fits.running) fits.at;
 }
 
-turn_small : (st : State) (start cursor : ℕ) (at : CleanupAt) → IsInOrder st → CleanupIsUnderway st start cursor at → turn_left st.limits.pages at < steps_for_page st.limits.pages
+turn_small : (st : State) (start cursor : ℕ) (at : CleanupAt) → IsInOrder st → CleanupIsUnderway st start cursor at → turn_left st.format.pages at < steps_for_page st.format.pages
 turn_small st start cursor Look order h = omega arith
 turn_small st start cursor (Start high) order h = omega arith
 turn_small st start cursor (Down high position) order h =
     let low = low_level st start position.level (bound_aim high) false position.block order.tree h.1.place in
-    let m = mul_le position.level 31 (st.limits.pages + 2) low in
+    let m = mul_le position.level 31 (st.format.pages + 2) low in
     omega (arith, m)
 turn_small st start cursor (Judge high parent) order h = omega arith
 turn_small st start cursor Unlink order h = omega arith
@@ -48,4 +48,4 @@ pages_small used cursor Unlink = omega arith
 
 pub cleanups_bounded : CleanupsAreBounded
 cleanups_bounded st op order fits few =
-    bounded st.limits.pages (length st.pages) op.cursor op.at few (pages_few st order.tree) (turn_small st fits.start op.cursor op.at order fits.at) (pages_small (length st.pages) op.cursor op.at)
+    bounded st.format.pages (length st.pages) op.cursor op.at few (pages_few st order.tree) (turn_small st fits.start op.cursor op.at order fits.at) (pages_small (length st.pages) op.cursor op.at)

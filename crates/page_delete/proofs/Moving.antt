@@ -28,7 +28,7 @@ dead_count page dead = no_leaf_count page (λ alive leaf. clash (sym alive ∙ d
 -- the leaf becomes half-dead
 pub dying_moves : (st : State) (leaf parent leaf_after parent_after : Page) (links : List Downlink) → slice_get st.pages leaf.block ≡ Some leaf
     → slice_get st.pages parent.block ≡ Some parent → MayDie leaf
-    → HasLinks parent.items → AreActable st.limits (length st.pages) (leaf_after ∷ parent_after ∷ [])
+    → HasLinks parent.items → AreActable st.format (length st.pages) (leaf_after ∷ parent_after ∷ [])
     → leaf_after ≡ record leaf { layout = Two; state = HalfDead } → parent_after ≡ with_downlinks (renewed parent) links
     → LeafDies leaf.block st (after_act (leaf_after ∷ parent_after ∷ []) st)
 dying_moves st leaf parent leaf_after parent_after links found parent_found may_die internal may leaf_is parent_is = record {
@@ -52,14 +52,14 @@ dying_moves st leaf parent leaf_after parent_after links found parent_found may_
 
     leaf_there : slice_get (with_pages st.pages (leaf_after ∷ parent_after ∷ [])) leaf.block ≡ Some leaf_after
     leaf_there = subst (λ (b : ℕ). slice_get (with_pages st.pages (leaf_after ∷ parent_after ∷ [])) b ≡ Some leaf_after) (ap (λ (p : Page). p.block) leaf_is)
-        (pages_first st.limits (length st.pages) st.pages leaf_after (parent_after ∷ []) may (omega arith))
+        (pages_first st.format (length st.pages) st.pages leaf_after (parent_after ∷ []) may (omega arith))
 
     parent_there : slice_get (with_pages st.pages (leaf_after ∷ parent_after ∷ [])) parent.block ≡ Some parent_after
     parent_there = subst (λ (b : ℕ). slice_get (with_pages st.pages (leaf_after ∷ parent_after ∷ [])) b ≡ Some parent_after) (ap (λ (p : Page). p.block) parent_is)
-        (pages_second st.limits (length st.pages) st.pages leaf_after parent_after [] may (omega arith))
+        (pages_second st.format (length st.pages) st.pages leaf_after parent_after [] may (omega arith))
 
     other : (b : ℕ) → b ≢ leaf.block → b ≢ parent.block → slice_get (with_pages st.pages (leaf_after ∷ parent_after ∷ [])) b ≡ slice_get st.pages b
-    other b not_leaf not_parent = pages_other st.limits (length st.pages) st.pages (leaf_after ∷ parent_after ∷ []) b may (omega arith)
+    other b not_leaf not_parent = pages_other st.format (length st.pages) st.pages (leaf_after ∷ parent_after ∷ []) b may (omega arith)
         ((λ same. not_leaf (sym same ∙ ap (λ (p : Page). p.block) leaf_is)), ((λ same. not_parent (sym same ∙ ap (λ (p : Page). p.block) parent_is)), tt))
 
     after_count : entry_count (Some leaf_after) ≡ 0
@@ -94,32 +94,32 @@ module _ (st : State) (page right : Page) (number : ℕ) (found : slice_get st.p
     ]),
   )
 
-  pub unlinking_moves : (session : ℕ) (left : Option Page) → IsTakenLeft st true session page page.left left → AreActable st.limits (length st.pages) (unlinked left page right number)
+  pub unlinking_moves : (session : ℕ) (left : Option Page) → IsTakenLeft st true session page page.left left → AreActable st.format (length st.pages) (unlinked left page right number)
       → PageIsDeleted page.block st (after_act (unlinked left page right number) st)
   unlinking_moves session left taken may = by page.left left taken may
     where
-      by : (link : Option ℕ) (left : Option Page) → IsTakenLeft st true session page link left → AreActable st.limits (length st.pages) (unlinked left page right number)
+      by : (link : Option ℕ) (left : Option Page) → IsTakenLeft st true session page link left → AreActable st.format (length st.pages) (unlinked left page right number)
           → PageIsDeleted page.block st (after_act (unlinked left page right number) st)
       by None None t may =
-          let there = pages_first st.limits (length st.pages) st.pages gone (right_after ∷ []) may (omega arith) in
-          let m = moved (with_pages st.pages (gone ∷ right_after ∷ [])) there (pages_second st.limits (length st.pages) st.pages gone right_after [] may (omega arith))
+          let there = pages_first st.format (length st.pages) st.pages gone (right_after ∷ []) may (omega arith) in
+          let m = moved (with_pages st.pages (gone ∷ right_after ∷ [])) there (pages_second st.format (length st.pages) st.pages gone right_after [] may (omega arith))
           (λ b not_page not_right.
-          let same = pages_other st.limits (length st.pages) st.pages (gone ∷ right_after ∷ []) b may (omega arith) ((λ e. not_page (sym e)), ((λ e. not_right (sym e)), tt)) in
+          let same = pages_other st.format (length st.pages) st.pages (gone ∷ right_after ∷ []) b may (omega arith) ((λ e. not_page (sym e)), ((λ e. not_right (sym e)), tt)) in
           (ap entry_count same, ap (λ (o : Option Page). (node_from o).state) same)) in
           record { counts = m.0; others = m.1; before = state_at st.pages page.block page found ∙ dead; after = state_at _ page.block gone there }
       by None (Some l) t may = absurd t
       by (Some k) None t may = absurd t
       by (Some k) (Some l) t may =
           let left_after = record l { layout = Two; right = Some right.block } in
-          let there = pages_second st.limits (length st.pages) st.pages left_after gone (right_after ∷ []) may (omega arith) in
-          let first = pages_first st.limits (length st.pages) st.pages left_after (gone ∷ right_after ∷ []) may (omega arith) in
+          let there = pages_second st.format (length st.pages) st.pages left_after gone (right_after ∷ []) may (omega arith) in
+          let first = pages_first st.format (length st.pages) st.pages left_after (gone ∷ right_after ∷ []) may (omega arith) in
           let left_found : slice_get st.pages l.block ≡ Some l = subst (λ (b : ℕ). slice_get st.pages b ≡ Some l) (sym t.0.stored.block_is) (t.0.found refl) in
-          let m = moved (with_pages st.pages (left_after ∷ gone ∷ right_after ∷ [])) there (pages_third st.limits (length st.pages) st.pages left_after gone right_after [] may (omega arith))
+          let m = moved (with_pages st.pages (left_after ∷ gone ∷ right_after ∷ [])) there (pages_third st.format (length st.pages) st.pages left_after gone right_after [] may (omega arith))
           (λ b not_page not_right. elim (cases_eq b l.block) [
             | inl is_left ↦ rw is_left
                 (count_at _ l.block left_after first ∙ sym (count_at st.pages l.block l left_found), state_at _ l.block left_after first ∙ sym (state_at st.pages l.block l left_found))
             | inr not_left ↦
-                let same = pages_other st.limits (length st.pages) st.pages (left_after ∷ gone ∷ right_after ∷ []) b may (omega arith)
+                let same = pages_other st.format (length st.pages) st.pages (left_after ∷ gone ∷ right_after ∷ []) b may (omega arith)
                 ((λ e. not_left (sym e)), ((λ e. not_page (sym e)), ((λ e. not_right (sym e)), tt))) in
                 (ap entry_count same, ap (λ (o : Option Page). (node_from o).state) same)
           ]) in

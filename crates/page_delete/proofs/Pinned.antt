@@ -25,7 +25,7 @@ leaf_same pages pages2 b page at same = record { page = page; was = record { fou
 -- a leaf that is made half-dead is pinned by no other session
 pub pinned_dying : (st : State) (session : ℕ) (leaf parent leaf_after parent_after : Page)
     → is_held_by_another st.table session leaf.block Cleanup ≡ false → slice_get st.pages parent.block ≡ Some parent
-    → HasLinks parent.items → AreActable st.limits (length st.pages) (leaf_after ∷ parent_after ∷ []) → leaf_after.block ≡ leaf.block → parent_after.block ≡ parent.block
+    → HasLinks parent.items → AreActable st.format (length st.pages) (leaf_after ∷ parent_after ∷ []) → leaf_after.block ≡ leaf.block → parent_after.block ≡ parent.block
     → PinnedLeafPagesStay session st (after_act (leaf_after ∷ parent_after ∷ []) st)
 pinned_dying st session leaf parent leaf_after parent_after free parent_found internal may leaf_is parent_is other b page differ at pin = elim (cases_eq b leaf.block) [
   | inl is_leaf ↦ absurd (pinned_is_held st.table session other b differ pin (subst (λ (k : ℕ). is_held_by_another st.table session k Cleanup ≡ false) (sym is_leaf) free))
@@ -34,7 +34,7 @@ pinned_dying st session leaf parent leaf_after parent_after free parent_found in
         let one : page ≡ parent = same_page st.pages b page parent at.found (subst (λ (k : ℕ). slice_get st.pages k ≡ Some parent) (sym is_parent) parent_found) in
         absurd (links_no_leaf page.items at.leaf (subst (λ (p : Page). HasLinks p.items) (sym one) internal)))
     | inr not_parent ↦ leaf_same st.pages (with_pages st.pages (leaf_after ∷ parent_after ∷ [])) b page at
-        (pages_other st.limits (length st.pages) st.pages (leaf_after ∷ parent_after ∷ []) b may (omega arith)
+        (pages_other st.format (length st.pages) st.pages (leaf_after ∷ parent_after ∷ []) b may (omega arith)
         ((λ same. not_leaf (sym same ∙ leaf_is)), ((λ same. not_parent (sym same ∙ parent_is)), tt)))
   ]
 ]
@@ -64,28 +64,28 @@ module _ (st : State) (page right : Page) (number : ℕ) (found : slice_get st.p
     ]
   ]
 
-  pub pinned_unlinking : (session : ℕ) (left : Option Page) → IsTakenLeft st true session page page.left left → AreActable st.limits (length st.pages) (unlinked left page right number)
+  pub pinned_unlinking : (session : ℕ) (left : Option Page) → IsTakenLeft st true session page page.left left → AreActable st.format (length st.pages) (unlinked left page right number)
       → PinnedLeafPagesStay session st (after_act (unlinked left page right number) st)
   pinned_unlinking session left taken may other b p differ at pin = by page.left left taken may
     where
-      by : (link : Option ℕ) (left : Option Page) → IsTakenLeft st true session page link left → AreActable st.limits (length st.pages) (unlinked left page right number)
+      by : (link : Option ℕ) (left : Option Page) → IsTakenLeft st true session page link left → AreActable st.format (length st.pages) (unlinked left page right number)
           → WasLeaf (with_pages st.pages (unlinked left page right number)) b
       by None None t may =
-          leaf_by (with_pages st.pages (gone ∷ right_after ∷ [])) b p at (pages_second st.limits (length st.pages) st.pages gone right_after [] may (omega arith))
+          leaf_by (with_pages st.pages (gone ∷ right_after ∷ [])) b p at (pages_second st.format (length st.pages) st.pages gone right_after [] may (omega arith))
           (λ not_page not_right. leaf_same st.pages (with_pages st.pages (gone ∷ right_after ∷ [])) b p at
-          (pages_other st.limits (length st.pages) st.pages (gone ∷ right_after ∷ []) b may (omega arith) ((λ e. not_page (sym e)), ((λ e. not_right (sym e)), tt))))
+          (pages_other st.format (length st.pages) st.pages (gone ∷ right_after ∷ []) b may (omega arith) ((λ e. not_page (sym e)), ((λ e. not_right (sym e)), tt))))
       by None (Some l) t may = absurd t
       by (Some k) None t may = absurd t
       by (Some k) (Some l) t may =
           let left_after = record l { layout = Two; right = Some right.block } in
-          let first = pages_first st.limits (length st.pages) st.pages left_after (gone ∷ right_after ∷ []) may (omega arith) in
+          let first = pages_first st.format (length st.pages) st.pages left_after (gone ∷ right_after ∷ []) may (omega arith) in
           let left_found : slice_get st.pages l.block ≡ Some l = subst (λ (x : ℕ). slice_get st.pages x ≡ Some l) (sym t.0.stored.block_is) (t.0.found refl) in
-          leaf_by (with_pages st.pages (left_after ∷ gone ∷ right_after ∷ [])) b p at (pages_third st.limits (length st.pages) st.pages left_after gone right_after [] may (omega arith))
+          leaf_by (with_pages st.pages (left_after ∷ gone ∷ right_after ∷ [])) b p at (pages_third st.format (length st.pages) st.pages left_after gone right_after [] may (omega arith))
           (λ not_page not_right. elim (cases_eq b l.block) [
             | inl is_left ↦ leaf_kept st.pages (with_pages st.pages (left_after ∷ gone ∷ right_after ∷ [])) b p l left_after at
                 (subst (λ (x : ℕ). slice_get st.pages x ≡ Some l) (sym is_left) left_found)
                 (subst (λ (x : ℕ). slice_get (with_pages st.pages (left_after ∷ gone ∷ right_after ∷ [])) x ≡ Some left_after) (sym is_left) first) refl refl
             | inr not_left ↦ leaf_same st.pages (with_pages st.pages (left_after ∷ gone ∷ right_after ∷ [])) b p at
-                (pages_other st.limits (length st.pages) st.pages (left_after ∷ gone ∷ right_after ∷ []) b may (omega arith)
+                (pages_other st.format (length st.pages) st.pages (left_after ∷ gone ∷ right_after ∷ []) b may (omega arith)
                 ((λ e. not_left (sym e)), ((λ e. not_page (sym e)), ((λ e. not_right (sym e)), tt))))
           ])

@@ -3,7 +3,7 @@ use Rattle.std.proofs.Common.{◌≡◌, ◌≢◌, ◌⊎◌, ℕ, suc, ◌+◌
 use Rattle.std.specs.Prelude.{slice_index_or}
 use Rattle.page_action.proofs.StoredPages.{stored_page}
 use Rattle.tree_shape.specs.Edits.{IsHalfDeath, IsUnlink}
-use Rattle.tree_shape.specs.Staying.{MustStay, rightmost, incomplete, behind, IsCompleteLeaf, HasBothLinks}
+use Rattle.tree_shape.specs.Staying.{MustStay, rightmost, incomplete, after_incomplete, IsCompleteLeaf, HasBothLinks}
 use Rattle.tree_shape.proofs.Links.{link_cases}
 use Rattle.tree_shape.proofs.Places.{cover_at}
 use Rattle.tree_shape.proofs.Staying.{complete_leaf_has_both_links, root_leaf_is_not_complete, half_death_spares, unlink_spares}
@@ -25,10 +25,10 @@ dead_gone : {s : PageState} → s ≡ HalfDead → s ≡ Deleted → ⊥
 dead_gone a b = cc
 
 admitted_at : (st : State) (block : ℕ) (page : Page) → HasTree st → slice_get st.pages block ≡ Some page → IsPage page
-admitted_at st block page has found = (stored_page st.limits block st.pages page has.stored found).storable.admitted
+admitted_at st block page has found = (stored_page st.format block st.pages page has.stored found).storable.admitted
 
 block_at : (st : State) (block : ℕ) (page : Page) → HasTree st → slice_get st.pages block ≡ Some page → page.block ≡ block
-block_at st block page has found = (stored_page st.limits block st.pages page has.stored found).block_is
+block_at st block page has found = (stored_page st.format block st.pages page has.stored found).block_is
 
 -- a page of level 0 that isn't the metapage is a leaf
 leaf_items : (page : Page) → IsPage page → 0 < page.block → page.level ≡ 0 → HasEntries page.items
@@ -87,9 +87,9 @@ looked_stays st block page has found none e = by page.split refl page.right refl
         }
 
 -- places after some downlinks
-place_behind : (before : List Downlink) (x : Downlink) (ys : List Downlink) (d : Downlink) → slice_index_or (before ++ x ∷ ys) (length before) d ≡ x
-place_behind [] x ys d = refl
-place_behind (b ∷ bs) x ys d = place_behind bs x ys d
+place_found : (before : List Downlink) (x : Downlink) (ys : List Downlink) (d : Downlink) → slice_index_or (before ++ x ∷ ys) (length before) d ≡ x
+place_found [] x ys d = refl
+place_found (b ∷ bs) x ys d = place_found bs x ys d
 
 place_after : (before : List Downlink) (x y : Downlink) (ys : List Downlink) (d : Downlink) → slice_index_or (before ++ x ∷ y ∷ ys) (suc (length before)) d ≡ y
 place_after [] x y ys d = refl
@@ -167,7 +167,7 @@ judged_stays st session block parent order alone none m not_to_die = with_right 
         by (Some p) there = flag p.split refl
           where
             flag : (w : Bool) → p.split ≡ w → IsCompleteAt st.pages (Some l) ⊎ HasToStay st block
-            flag true split = inr (behind l (ap (λ (n : Node). n.left) here ∙ is) (ap (λ (n : Node). n.split) (node_there st.pages l p there) ∙ split))
+            flag true split = inr (after_incomplete l (ap (λ (n : Node). n.left) here ∙ is) (ap (λ (n : Node). n.split) (node_there st.pages l p there) ∙ split))
             flag false split = inl (λ page found. ap (λ (q : Page). q.split) (same_Some page p (sym found ∙ there)) ∙ split)
 
     with_right : (o : Option ℕ) → m.leaf.leaf.right ≡ o → IsSome o → HasToStay st block
@@ -234,7 +234,7 @@ judged_stays st session block parent order alone none m not_to_die = with_right 
                 level = sym (ap (λ (n : Node). n.level) parent_node) ∙ (member (nodes_of st.pages) 1 first_context (m.above.tree.chain 1) None parent (m.above.tree.is.runs 1 m.above.in_tree) on_chain).0;
                 place = subst (λ (links : List Downlink). IsHandingPlace links block r (length both.before)) (sym links_are) (record {
                   next_inside = place_inside both.before _ _ both.after;
-                  leads = ap (λ (d : Downlink). d.child) (place_behind both.before _ _ _);
+                  leads = ap (λ (d : Downlink). d.child) (place_found both.before _ _ _);
                   first = subst (λ (l : List Downlink). All (λ (d : Downlink). d.child ≢ block) l) (sym (taken_before both.before _)) both.first;
                   next = ap (λ (d : Downlink). d.child) (place_after both.before _ _ both.after _);
                 });

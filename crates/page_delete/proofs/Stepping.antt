@@ -103,7 +103,7 @@ fits_at st before after fits session at = record {
 -- a step that goes on without an act
 pub moves : {S : Type 0} (g : Ghosts S) (before after : CleanupOp) (old new : S) → Continues g.follows old new → g.state new ≡ g.state old
     → after.session ≡ before.session → after.deleted ≡ before.deleted → (g.backing old).stopped ≡ false
-    → cleanup_left (g.state old).limits.pages (length (g.state old).pages) after.cursor after.at < cleanup_left (g.state old).limits.pages (length (g.state old).pages) before.cursor before.at
+    → cleanup_left (g.state old).format.pages (length (g.state old).pages) after.cursor after.at < cleanup_left (g.state old).format.pages (length (g.state old).pages) before.cursor before.at
     → ((g.backing new).honest ≡ true → IsInOrder (g.state old) → (fits : CleanupInvariant (g.state old) before)
     → TurnsFrom before.at (g.state old) before None after × CleanupIsUnderway (g.state old) fits.start after.cursor after.at)
     → ((g.backing new).honest ≡ true → CleanupInvariant (g.state old) before → IsCleaned (g.state old) before → IsCleaned (g.state old) after)
@@ -120,7 +120,7 @@ moves g before after old new steps same session none alive less stepped cleans s
   stopped = λ h. runs_no_more (g.backing old).stopped alive h;
   stats = tt;
   less = subst (λ (st : State).
-      cleanup_left st.limits.pages (length st.pages) after.cursor after.at < cleanup_left (g.state old).limits.pages (length (g.state old).pages) before.cursor before.at) (sym same) less;
+      cleanup_left st.format.pages (length st.pages) after.cursor after.at < cleanup_left (g.state old).format.pages (length (g.state old).pages) before.cursor before.at) (sym same) less;
   pins = λ honest. pinned_same before.session (g.state old) (g.state new) same;
   deletes = λ honest. ap (λ (st : State). deleted_in st + before.deleted) same ∙ ap (λ (n : ℕ). deleted_in (g.state old) + n) (sym none);
   counts = λ honest fits h. subst (λ (st : State). IsCleaned st after) (sym same) (cleans honest fits h);
@@ -138,7 +138,7 @@ moves g before after old new steps same session none alive less stepped cleans s
 -- ... or with one
 pub acts : {S : Type 0} (g : Ghosts S) (written : State → List ℕ) (sure : State → Type 0) (change : State → State → Type 0) (reason : State → Type 0)
     (before after : CleanupOp) (old new : S) → IsTried g before.session written sure change reason old new (Ok true) → after.session ≡ before.session → (g.backing old).stopped ≡ false
-    → cleanup_left (g.state old).limits.pages (length (g.state old).pages) after.cursor after.at < cleanup_left (g.state old).limits.pages (length (g.state old).pages) before.cursor before.at
+    → cleanup_left (g.state old).format.pages (length (g.state old).pages) after.cursor after.at < cleanup_left (g.state old).format.pages (length (g.state old).pages) before.cursor before.at
     → TurnsFrom before.at (g.state old) before (Some Shape) after
     → (IsInOrder (g.state old) → (fits : CleanupInvariant (g.state old) before) → DeletesOn before.session (g.state old) (g.state new)
     → CleanupIsUnderway (g.state new) fits.start after.cursor after.at)
@@ -156,9 +156,9 @@ acts g written sure change reason before after old new tried session alive less 
   stopped = λ h. runs_no_more (g.backing old).stopped alive h;
   stats = tt;
   less =
-      let most : (g.state new).limits.pages ≡ (g.state old).limits.pages = ap (λ (l : _). l.pages) tried.kept.limits in
-      subst (λ (n : ℕ). cleanup_left (g.state new).limits.pages n after.cursor after.at < cleanup_left (g.state old).limits.pages (length (g.state old).pages) before.cursor before.at) (sym tried.used)
-      (subst (λ (m : ℕ). cleanup_left m (length (g.state old).pages) after.cursor after.at < cleanup_left (g.state old).limits.pages
+      let most : (g.state new).format.pages ≡ (g.state old).format.pages = ap (λ (l : _). l.pages) tried.kept.format in
+      subst (λ (n : ℕ). cleanup_left (g.state new).format.pages n after.cursor after.at < cleanup_left (g.state old).format.pages (length (g.state old).pages) before.cursor before.at) (sym tried.used)
+      (subst (λ (m : ℕ). cleanup_left m (length (g.state old).pages) after.cursor after.at < cleanup_left (g.state old).format.pages
       (length (g.state old).pages) before.cursor before.at) (sym most) less);
   pins = tried.pins;
   deletes = λ honest. deletes tried.used (tried.changed honest refl);
@@ -195,7 +195,7 @@ try_refused g written sure change reason op old new fault tried alive same there
 -- the leaf is judged
 module _ {S : Type 0} (g : Ghosts S) (before : CleanupOp) (high : Bound) (parent : ℕ) (old new : S) (at : before.at ≡ Judge high parent) (alive : (g.backing old).stopped ≡ false) where
   abbrev most : ℕ
-  most = (g.state old).limits.pages
+  most = (g.state old).format.pages
 
   abbrev used : ℕ
   used = length (g.state old).pages
@@ -259,8 +259,8 @@ module _ {S : Type 0} (g : Ghosts S) (before : CleanupOp) (old new : S) (at : be
   page_goes tried =
       acts g (blocks_unlinked_at before.cursor) (IsInUse before.cursor) (PageIsDeleted before.cursor) (IsNotDead before.cursor) before (moved_past_deleted before) old new tried refl alive
       (subst (λ (a : CleanupAt).
-      cleanup_left (g.state old).limits.pages (length (g.state old).pages) (suc before.cursor) Look < cleanup_left (g.state old).limits.pages
-      (length (g.state old).pages) before.cursor a) (sym at) (unlink_passes (g.state old).limits.pages (length (g.state old).pages) before.cursor))
+      cleanup_left (g.state old).format.pages (length (g.state old).pages) (suc before.cursor) Look < cleanup_left (g.state old).format.pages
+      (length (g.state old).pages) before.cursor a) (sym at) (unlink_passes (g.state old).format.pages (length (g.state old).pages) before.cursor))
       (subst (λ (a : CleanupAt). TurnsFrom a (g.state old) before (Some Shape) (moved_past_deleted before)) (sym at) (inl (refl, refl)))
       (λ order fits d. tt)
       (λ same moved. let one = one_deleted (g.state old) (g.state new) before.cursor same moved in omega (arith, one))
@@ -272,8 +272,8 @@ module _ {S : Type 0} (g : Ghosts S) (before : CleanupOp) (old new : S) (at : be
   page_stays tried =
       moves g before (moved_past before 0) old new tried.steps (tried.stays refl) refl refl alive
       (subst (λ (a : CleanupAt).
-      cleanup_left (g.state old).limits.pages (length (g.state old).pages) (suc before.cursor) Look < cleanup_left (g.state old).limits.pages
-      (length (g.state old).pages) before.cursor a) (sym at) (unlink_passes (g.state old).limits.pages (length (g.state old).pages) before.cursor))
+      cleanup_left (g.state old).format.pages (length (g.state old).pages) (suc before.cursor) Look < cleanup_left (g.state old).format.pages
+      (length (g.state old).pages) before.cursor a) (sym at) (unlink_passes (g.state old).format.pages (length (g.state old).pages) before.cursor))
       (λ honest order fits.
       (subst (λ (a : CleanupAt). TurnsFrom a (g.state old) before None (moved_past before 0)) (sym at) (inr (refl, refl, tried.passes honest (has_room (g.state old) before fits) refl)), tt))
       (λ honest fits h. cleaned_past (g.state old) before 0 h (come_within (g.state old) before Unlink at h)
@@ -283,13 +283,13 @@ module _ {S : Type 0} (g : Ghosts S) (before : CleanupOp) (old new : S) (at : be
 -- the page at the cursor is looked at
 pub looks : {S : Type 0} (g : Ghosts S) (before after : CleanupOp) (old new : S) (page : Page) → before.at ≡ Look → (g.backing old).stopped ≡ false
     → Continues g.follows old new → g.state new ≡ g.state old
-    → before.cursor < length (g.state old).pages → IsStored (g.state old).limits before.cursor page
+    → before.cursor < length (g.state old).pages → IsStored (g.state old).format before.cursor page
     → ((g.backing new).honest ≡ true → slice_get (g.state old).pages before.cursor ≡ Some page) → TurnsAt page before after
     → CleanupSteps g before after old new (Ok Going)
 looks g before after old new page at alive steps same inside stored found turn =
     moves g before after old new steps same (session_is turn) (deleted_is turn) alive
     (subst (λ (a : CleanupAt).
-    cleanup_left (g.state old).limits.pages (length (g.state old).pages) after.cursor after.at < cleanup_left (g.state old).limits.pages
+    cleanup_left (g.state old).format.pages (length (g.state old).pages) after.cursor after.at < cleanup_left (g.state old).format.pages
     (length (g.state old).pages) before.cursor a) (sym at) (less turn))
     (λ honest order fits. (
       subst (λ (a : CleanupAt). TurnsFrom a (g.state old) before None after) (sym at)
@@ -310,10 +310,10 @@ looks g before after old new page at alive steps same inside stored found turn =
     deleted_is (passes alive empty is) = ap (λ (op : CleanupOp). op.deleted) is
 
     less : TurnsAt page before after
-        → cleanup_left (g.state old).limits.pages (length (g.state old).pages) after.cursor after.at < cleanup_left (g.state old).limits.pages (length (g.state old).pages) before.cursor Look
-    less (unlinks dead is) = rw is (look_unlinks (g.state old).limits.pages (length (g.state old).pages) before.cursor inside)
-    less (tries high may is_high is) = rw is (look_starts (g.state old).limits.pages (length (g.state old).pages) before.cursor high inside)
-    less (passes alive empty is) = rw is (look_passes (g.state old).limits.pages (length (g.state old).pages) before.cursor inside)
+        → cleanup_left (g.state old).format.pages (length (g.state old).pages) after.cursor after.at < cleanup_left (g.state old).format.pages (length (g.state old).pages) before.cursor Look
+    less (unlinks dead is) = rw is (look_unlinks (g.state old).format.pages (length (g.state old).pages) before.cursor inside)
+    less (tries high may is_high is) = rw is (look_starts (g.state old).format.pages (length (g.state old).pages) before.cursor high inside)
+    less (passes alive empty is) = rw is (look_passes (g.state old).format.pages (length (g.state old).pages) before.cursor inside)
 
     under : (g.backing new).honest ≡ true → IsInOrder (g.state old) → (fits : CleanupInvariant (g.state old) before) → TurnsAt page before after
         → CleanupIsUnderway (g.state old) fits.start after.cursor after.at
@@ -364,8 +364,8 @@ starts g before after high old new meta position at alive steps same admitted fo
     by : (l : ℕ) → position.level ≡ l → after ≡ left_to before l position high → CleanupSteps g before after old new (Ok Going)
     by zero z is0 = moves g before after old new steps same (ap (λ (op : CleanupOp). op.session) is0) (ap (λ (op : CleanupOp). op.deleted) is0) alive
         (subst (λ (a : CleanupAt).
-        cleanup_left (g.state old).limits.pages (length (g.state old).pages) after.cursor after.at < cleanup_left (g.state old).limits.pages
-        (length (g.state old).pages) before.cursor a) (sym at) (rw is0 (start_passes (g.state old).limits.pages (length (g.state old).pages) before.cursor high)))
+        cleanup_left (g.state old).format.pages (length (g.state old).pages) after.cursor after.at < cleanup_left (g.state old).format.pages
+        (length (g.state old).pages) before.cursor a) (sym at) (rw is0 (start_passes (g.state old).format.pages (length (g.state old).pages) before.cursor high)))
         (λ honest order fits. (
           subst (λ (a : CleanupAt). TurnsFrom a (g.state old) before None after) (sym at)
               (refl, (λ m there. let one = same_page (g.state old).pages 0 meta m (found honest) there in inl (ap (λ (p : Page). p.level) (sym one) ∙ sym level ∙ z, is0))),
@@ -377,8 +377,8 @@ starts g before after high old new meta position at alive steps same admitted fo
         (subst (IsSought (g.state old) before.cursor) at h.sought)))
     by (suc n) some is1 = moves g before after old new steps same (ap (λ (op : CleanupOp). op.session) is1) (ap (λ (op : CleanupOp). op.deleted) is1) alive
         (subst (λ (a : CleanupAt).
-        cleanup_left (g.state old).limits.pages (length (g.state old).pages) after.cursor after.at < cleanup_left (g.state old).limits.pages (length (g.state old).pages) before.cursor a) (sym at)
-        (rw is1 (start_goes_down (g.state old).limits.pages (length (g.state old).pages) before.cursor high position (subst (λ (k : ℕ). k ≤ 31) (sym level) (page_low meta admitted)))))
+        cleanup_left (g.state old).format.pages (length (g.state old).pages) after.cursor after.at < cleanup_left (g.state old).format.pages (length (g.state old).pages) before.cursor a) (sym at)
+        (rw is1 (start_goes_down (g.state old).format.pages (length (g.state old).pages) before.cursor high position (subst (λ (k : ℕ). k ≤ 31) (sym level) (page_low meta admitted)))))
         (λ honest order fits.
         let t = tells honest order fits.start in
         let w = root_is honest order fits.start in (
@@ -404,7 +404,7 @@ starts g before after high old new meta position at alive steps same admitted fo
 
 -- a page on the way is read
 pub descends : {S : Type 0} (g : Ghosts S) (before after : CleanupOp) (high : Bound) (position : Position) (old new : S) (next_page : Option NextPage) (result : Result CleanupStep Fault) → before.at ≡ Down high position
-    → (g.backing old).stopped ≡ false → Continues g.follows old new → g.state new ≡ g.state old → position.level ≢ 0 → DescentIsShorter 1 (g.state old).limits.pages position next_page
+    → (g.backing old).stopped ≡ false → Continues g.follows old new → g.state new ≡ g.state old → position.level ≢ 0 → DescentIsShorter 1 (g.state old).format.pages position next_page
     → ((g.backing new).honest ≡ true → (start : ℕ) → IsInOrder (g.state old) → IsOnDescent (g.state old) start (bound_aim high) false 1 position
     → LeadsToNext (g.state old) start (bound_aim high) false 1 position next_page)
     → after ≡ left_page before next_page position.block high → result ≡ left_answer next_page position.block → CleanupSteps g before after old new result
@@ -415,8 +415,8 @@ descends g before after high position old new None result at alive steps same so
 descends g before after high position old new (Some (LeadsOn on)) result at alive steps same some less leads op is = subst (CleanupSteps g before after old new) (sym is)
     (moves g before after old new steps same (ap (λ (o : CleanupOp). o.session) op) (ap (λ (o : CleanupOp). o.deleted) op) alive
     (subst (λ (a : CleanupAt).
-    cleanup_left (g.state old).limits.pages (length (g.state old).pages) after.cursor after.at < cleanup_left (g.state old).limits.pages (length (g.state old).pages) before.cursor a) (sym at)
-    (rw op (down_goes_on (g.state old).limits.pages (length (g.state old).pages) before.cursor high position on less)))
+    cleanup_left (g.state old).format.pages (length (g.state old).pages) after.cursor after.at < cleanup_left (g.state old).format.pages (length (g.state old).pages) before.cursor a) (sym at)
+    (rw op (down_goes_on (g.state old).format.pages (length (g.state old).pages) before.cursor high position on less)))
     (λ honest order fits.
     let u = subst (CleanupIsUnderway (g.state old) fits.start before.cursor) at fits.at in (
       subst (λ (a : CleanupAt). TurnsFrom a (g.state old) before None after) (sym at) (refl, inl (on, op)),
@@ -427,8 +427,8 @@ descends g before after high position old new (Some (LeadsOn on)) result at aliv
 descends g before after high position old new (Some Here) result at alive steps same some less leads op is = subst (CleanupSteps g before after old new) (sym is)
     (moves g before after old new steps same (ap (λ (o : CleanupOp). o.session) op) (ap (λ (o : CleanupOp). o.deleted) op) alive
     (subst (λ (a : CleanupAt).
-    cleanup_left (g.state old).limits.pages (length (g.state old).pages) after.cursor after.at < cleanup_left (g.state old).limits.pages (length (g.state old).pages) before.cursor a) (sym at)
-    (rw op (down_judges (g.state old).limits.pages (length (g.state old).pages) before.cursor high position position.block (omega (arith, some)))))
+    cleanup_left (g.state old).format.pages (length (g.state old).pages) after.cursor after.at < cleanup_left (g.state old).format.pages (length (g.state old).pages) before.cursor a) (sym at)
+    (rw op (down_judges (g.state old).format.pages (length (g.state old).pages) before.cursor high position position.block (omega (arith, some)))))
     (λ honest order fits.
     let u = subst (CleanupIsUnderway (g.state old) fits.start before.cursor) at fits.at in
     let here = leads honest fits.start order u.1 in (

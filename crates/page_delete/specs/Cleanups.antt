@@ -99,8 +99,8 @@ CleanupStatsAreRight st op (Err fault) = Unit {0}
 abbrev pub CleanupHasLessLeft : State → State → CleanupOp → CleanupOp → Result CleanupStep Fault
     → Type 0
 CleanupHasLessLeft old new before after (Ok Going) =
-    cleanup_left new.limits.pages (length new.pages) after.cursor after.at
-    < cleanup_left old.limits.pages (length old.pages) before.cursor before.at
+    cleanup_left new.format.pages (length new.pages) after.cursor after.at
+    < cleanup_left old.format.pages (length old.pages) before.cursor before.at
 CleanupHasLessLeft old new before after (Ok (Finished stats)) = Unit {0}
 CleanupHasLessLeft old new before after (Err fault) = Unit {0}
 

@@ -20,8 +20,8 @@ CleanupsAreUndisturbed =
 -- what is left to do for a cleanup has a bound at each moment, within the limits
 abbrev pub CleanupsAreBounded : Type 0
 CleanupsAreBounded =
-    (st : State) (op : CleanupOp) → IsInOrder st → CleanupInvariant st op → st.limits.pages ≤ 65536
-    → cleanup_left st.limits.pages (length st.pages) op.cursor op.at < 4398046511104
+    (st : State) (op : CleanupOp) → IsInOrder st → CleanupInvariant st op → st.format.pages ≤ 65536
+    → cleanup_left st.format.pages (length st.pages) op.cursor op.at < 4398046511104
 
 -- before the first step nothing is counted, and there is nothing to clean
 abbrev pub NothingIsCleaned : Type 0

@@ -93,7 +93,7 @@ SiblingsAnswer pages leaf None = (right : ℕ) → SiblingsAllow pages leaf righ
 pub record IsCandidate (st : State) (honest : Bool) (session block : ℕ) (leaf : Page) : Type 0
   where
     pub found : honest ≡ true → slice_get st.pages block ≡ Some leaf
-    pub stored : IsStored st.limits block leaf
+    pub stored : IsStored st.format block leaf
     pub used : block < length st.pages
     pub free : is_held_by_another st.table session block Cleanup ≡ false
     pub may_die : MayDie leaf
@@ -111,7 +111,7 @@ CandidateAnswers st honest session block None =
 -- the page of this block as it was read to be changed: no other session holds it
 pub record IsTakenToChange (st : State) (honest : Bool) (session block : ℕ) (page : Page) : Type 0 where
   pub found : honest ≡ true → slice_get st.pages block ≡ Some page
-  pub stored : IsStored st.limits block page
+  pub stored : IsStored st.format block page
   pub used : block < length st.pages
   pub free : is_held_by_another st.table session block Exclusive ≡ false
 

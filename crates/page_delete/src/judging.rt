@@ -198,7 +198,7 @@ fn make_half_dead<S: PageStore>(
     requires parent { IsTakenToChange (S.state store.old) (S.backing store.old).honest session
         parent.block parent }
     requires place { IsHandingOn parent leaf.block right at }
-    requires inside { length (S.state store.old).pages ≤ (S.state store.old).limits.pages }
+    requires inside { length (S.state store.old).pages ≤ (S.state store.old).format.pages }
     ensures all { IsTried S.PageStore session (blocks_judged leaf.block parent.block)
         (BlocksAreInUse leaf.block parent.block) (LeafDies leaf.block) (IsSpared session leaf.block parent.block)
         store.old store.new result }

@@ -70,7 +70,7 @@ fn take_right<S: PageStore>(
     ensures taken { IfOk result (IsTakenRight (S.state store.old) (S.backing store.new).honest
         session page.now block) }
     ensures inside { OnOk result (length (S.state store.old).pages
-        ≤ (S.state store.old).limits.pages) }
+        ≤ (S.state store.old).format.pages) }
     ensures alive { OnOk result
         ((S.backing store.new).stopped ≡ true → (S.backing store.old).stopped ≡ true) }
     ensures promised { (S.backing store.new).promised ≡ (S.backing store.old).promised }
@@ -98,13 +98,13 @@ fn act_between<S: PageStore>(
 ) -> Result<u64, Fault>
     ensures steps { Continues S.follows store.old store.new }
     ensures may { OnOk result
-        (AreActable (S.state store.old).limits (length (S.state store.old).pages)
+        (AreActable (S.state store.old).format (length (S.state store.old).pages)
         (unlinked left page.now right number)) }
     ensures done { OnOk result (S.state store.new
         ≡ after_act (unlinked left page.now right number) (S.state store.old)) }
     ensures refused { OnErr result (S.state store.new ≡ S.state store.old) }
     ensures faults { IfErr result (HasCause causes_of_writing_any) }
-    ensures cause { AreActable (S.state store.old).limits (length (S.state store.old).pages)
+    ensures cause { AreActable (S.state store.old).format (length (S.state store.old).pages)
         (unlinked left page.now right number)
         → IfErr result (HasCause (causes_of_acting (S.state store.old) (S.backing store.old)
         (S.backing store.new) (unlinked left page.now right number))) }
@@ -138,7 +138,7 @@ fn unlink_between<S: PageStore>(
         page.left left }
     requires right { IsTakenRight (S.state store.old) (S.backing store.old).honest session page
         right.block right }
-    requires inside { length (S.state store.old).pages ≤ (S.state store.old).limits.pages }
+    requires inside { length (S.state store.old).pages ≤ (S.state store.old).format.pages }
     ensures all { IsTried S.PageStore session (blocks_unlinked_at page.block) (IsInUse page.block)
         (PageIsDeleted page.block) (IsNotDead page.block) store.old store.new result }
     ensures faults { IfErr result (HasCause causes_of_writing_any) }

@@ -2,7 +2,7 @@
 use Rattle.std.proofs.Common.{◌≡◌, ℕ, zero, suc, ◌+◌, ◌*◌, ◌<◌, ◌≤◌, Bool, true, false, ◌&&◌, if◌then◌else◌, Some, List, [], ◌∷◌, length, slice_get, refl, ap, ◌∙◌, arith}
 use Rattle.std.proofs.Math.Nat.{mul_comm}
 use Rattle.scan.proofs.Imports.{mul-add-lt, Bound, Page, Live, IsNoGreater, is_live, frontier_aim, is_within, walk_length, frontier_past, is_ahead, count_ahead, false≢true}
-use Rattle.scan.proofs.Behind.{within_falls, high_is_passed}
+use Rattle.scan.proofs.Frontiers.{within_falls, high_is_passed}
 
 counted : Bool → ℕ → ℕ
 counted c n = if c then suc n else n

@@ -31,7 +31,7 @@ pub use Rattle.descent.proofs.Acting.{holds_else, one_nothing}
 pub use Rattle.descent.proofs.Shortening.{walk_is_long, way_shortens}
 pub use Rattle.descent.specs.NextPage.{DescentIsShorter, IsArrived, IsOnDescent, IsShorter, LeadsStraight, LeadsToNext, walk_length, position_from, way_left}
 pub use Rattle.descent.specs.declared.position.Position.{Position}
-pub use Rattle.scan.specs.Scans.{IsAfter, IsUnderway, LeafIsLive, LeafIsRead, ScanInvariant, ScanStands, ScanSteps, ScanWaits, after_leaf, behind, causes_of_scanning, frontier_past, leaf_pinned}
+pub use Rattle.scan.specs.Scans.{IsAfter, IsUnderway, LeafIsLive, LeafIsRead, ScanInvariant, ScanStands, ScanSteps, ScanWaits, after_leaf, after_reading, causes_of_scanning, frontier_past, leaf_pinned}
 pub use Rattle.scan.specs.Scans.{moved_to, waiting, without_leaf}
 pub use Rattle.scan.specs.Straight.{ScanCountsDown, ScanIsStraight, scan_straight_steps}
 pub use Rattle.scan.specs.Work.{count_ahead, is_ahead, leaves_left, scan_left, scan_walk_left}

@@ -58,7 +58,7 @@ walk_few st start most leaf f Last has stands = omega arith
 
 pub bounded_at_each_moment : ScansAreBounded
 bounded_at_each_moment st op order few_pages fits =
-    let most = st.limits.pages in
+    let most = st.format.pages in
     let pages = pages_few st order.tree in
     let count = leaves_few op.frontier st.pages op.at in
     let leaves = mul-le (leaves_left op.frontier st.pages op.at) (walk_length most + 52) 65536 16778292 (omega arith) (omega arith) in

@@ -3,14 +3,14 @@ use Rattle.std.proofs.Common.{◌≡◌, ℕ, Bool, true, false, not, ◌&&◌, 
 use Rattle.index_model.proofs.Ascending.{AllByRecursion-among}
 use Rattle.page_action.specs.Contents.{entry_on_live_leaf}
 use Rattle.scan.proofs.Imports.{cases_Bool, and_parts, is_among, is_past, IsUpTo, from_admits, below_admits, Bound, Entry, entries_of, IsLiveLeaf, Page, State, IsCopiedFrom, entry_aim, false≢true}
-use Rattle.scan.proofs.Imports.{frontier_aim, is_within, HasTree, HasCover, leaf_shows, frontier_shows, Position, IsAfter, LeafIsRead, behind, after_leaf, frontier_past, ScanAt, At, Last, ScanOp}
-use Rattle.scan.proofs.Behind.{not_back, past_high, behind_stays, within_high, below_high}
+use Rattle.scan.proofs.Imports.{frontier_aim, is_within, HasTree, HasCover, leaf_shows, frontier_shows, Position, IsAfter, LeafIsRead, after_reading, after_leaf, frontier_past, ScanAt, At, Last, ScanOp}
+use Rattle.scan.proofs.Frontiers.{not_back, past_high, passed_stays, within_high, below_high}
 
 -- what the frontier has passed is after the scan
-pub behind_after : (g : Bound) (high : Option Bound) (right : Option ℕ) (below : Option (List ℕ)) (e : Entry) → is_past g e ≡ false → IsAfter g (after_leaf high right below) e
-behind_after g None right below e h = tt
-behind_after g (Some high) None below e h = tt
-behind_after g (Some high) (Some right) below e h = go (below_admits below high.key)
+pub is_after_leaf : (g : Bound) (high : Option Bound) (right : Option ℕ) (below : Option (List ℕ)) (e : Entry) → is_past g e ≡ false → IsAfter g (after_leaf high right below) e
+is_after_leaf g None right below e h = tt
+is_after_leaf g (Some high) None below e h = tt
+is_after_leaf g (Some high) (Some right) below e h = go (below_admits below high.key)
   where
     go : (w : Bool) → IsAfter g (if w then At (record { block = right; level = 0; moves = 1 }) else Last) e
     go true = h
@@ -39,7 +39,7 @@ up_to_within (Some high) e h = ap not h
 
 up_to_after : (f : Bound) (high : Option Bound) (right : Option ℕ) (below : Option (List ℕ)) (e : Entry) → IsUpTo high e → IsAfter (frontier_past f high) (after_leaf high right below) e
 up_to_after f None right below e h = tt
-up_to_after f (Some high) right below e h = behind_after (frontier_past f (Some high)) (Some high) right below e (behind_stays high (frontier_past f (Some high)) (past_high f high) e h)
+up_to_after f (Some high) right below e h = is_after_leaf (frontier_past f (Some high)) (Some high) right below e (passed_stays high (frontier_past f (Some high)) (past_high f high) e h)
 
 module _ (st : State) (before : ScanOp) (leaf : Option ℕ) (position : Position) (page : Page) (es : List Entry) (tree : HasTree st) (from : before.at ≡ At position)
     (started : (e : Entry) → is_past before.frontier e ≡ true → from_admits before.range.from e.key ≡ true)
@@ -60,7 +60,7 @@ module _ (st : State) (before : ScanOp) (leaf : Option ℕ) (position : Position
   passed_before : (e : Entry) → IsAfter before.frontier before.at e → is_past before.frontier e ≡ false
   passed_before e h = subst (λ (a : ScanAt). IsAfter before.frontier a e) from h
 
-  pub reads_leaf : LeafIsRead st before (behind (record before { leaf = leaf }) page.high page.right es)
+  pub reads_leaf : LeafIsRead st before (after_reading (record before { leaf = leaf }) page.high page.right es)
   reads_leaf = record {
     ascends = copied.ascends;
     matched = λ e m. (let p = given_parts e m in rw (started e p.1, p.2) refl);
@@ -74,6 +74,6 @@ module _ (st : State) (before : ScanOp) (leaf : Option ℕ) (position : Position
           | inr not_beyond ↦ inl (after_before e not_beyond)
         ];
     next_page = λ e m. up_to_after before.frontier page.high page.right before.range.below e (up_to e (given_parts e m).0);
-    forward = λ e h. behind_after (frontier_past before.frontier page.high) page.high page.right before.range.below e
-        (behind_stays before.frontier (frontier_past before.frontier page.high) (not_back before.frontier page.high) e (passed_before e h));
+    forward = λ e h. is_after_leaf (frontier_past before.frontier page.high) page.high page.right before.range.below e
+        (passed_stays before.frontier (frontier_past before.frontier page.high) (not_back before.frontier page.high) e (passed_before e h));
   }

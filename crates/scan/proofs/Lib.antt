@@ -2,7 +2,7 @@ pub mod Imports
 pub mod Resting
 pub mod Standing
 pub mod Causes
-pub mod Behind
+pub mod Frontiers
 pub mod Counting
 pub mod Leaf
 pub mod Rooting

@@ -3,9 +3,9 @@ use Rattle.std.proofs.Common.{◌≡◌, ℕ, ◌+◌, ◌<◌, ◌≤◌, Bool,
 use Rattle.tree_shape.specs.Laws.{IsPassedBy}
 use Rattle.scan.proofs.Imports.{below_admits, Bound, Entry, Table, pinned, Page, State, with_table, node_of, frontier_aim, is_within, WasLeaf, HasTree, LeadsTo, RightIsThere, passed_shows, false≢true}
 use Rattle.scan.proofs.Imports.{places_widen, trail_begins_here, trail_moves_right, IsOnDescent, IsArrived, IsShorter, way_left, IsInOrder, StepEffect, Position, holds_else, walk_is_long, same_Some}
-use Rattle.scan.proofs.Imports.{way_shortens, waiting, without_leaf, moved_to, behind, after_leaf, frontier_past, ScanStands, ScanInvariant, scan_left, leaves_left, scan_walk_left, count_ahead}
+use Rattle.scan.proofs.Imports.{way_shortens, waiting, without_leaf, moved_to, after_reading, after_leaf, frontier_past, ScanStands, ScanInvariant, scan_left, leaves_left, scan_walk_left, count_ahead}
 use Rattle.scan.proofs.Imports.{is_ahead, ScanAt, Start, At, Last, ScanOp}
-use Rattle.scan.proofs.Behind.{not_back, aim_widens, past_falls, high_is_passed}
+use Rattle.scan.proofs.Frontiers.{not_back, aim_widens, past_falls, high_is_passed}
 use Rattle.scan.proofs.Counting.{count_drops, live_ahead, passed_not_ahead, some_ahead, leaf_less}
 use Rattle.scan.proofs.Resting.{way_with}
 use Rattle.scan.proofs.Standing.{without_many, without_apart, without_other, without_held, stood_many, stood_apart, stood_other, stood_held}
@@ -85,8 +85,8 @@ module _ (old new : State) (before : ScanOp) (block : ℕ) (order : IsInOrder ol
       (stood_many old.table before.session before.leaf block low ∙ order.holdings) (λ other differ. stood_other old.table before.session before.leaf block low other differ)
 
   pub reading_fits : (page : Page) (es : List Entry) → slice_get old.pages page.block ≡ Some page → LeadsTo old fits.start 0 (frontier_aim before.frontier) false page.block
-      → WasLeaf old.pages block → length es ≤ 50 → ScanInvariant new (behind (record before { leaf = Some block }) page.high page.right es)
-  reading_fits page es found place live few = subst (λ (st : State). ScanInvariant st (behind (record before { leaf = Some block }) page.high page.right es)) (sym is) (record {
+      → WasLeaf old.pages block → length es ≤ 50 → ScanInvariant new (after_reading (record before { leaf = Some block }) page.high page.right es)
+  reading_fits page es found place live few = subst (λ (st : State). ScanInvariant st (after_reading (record before { leaf = Some block }) page.high page.right es)) (sym is) (record {
     session = fits.session;
     start = fits.start;
     running = fits.running;
@@ -140,7 +140,7 @@ walk_after most (Some high) (Some right) below = by (below_admits below high.key
     by false = omega arith
 
 pub reading_less : (most : ℕ) (pages : List Page) (before : ScanOp) (leaf : Option ℕ) (position : Position) (b : ℕ) (page : Page) (es : List Entry) → before.at ≡ At position → slice_get pages b ≡ Some page
-    → IsArrived page (frontier_aim before.frontier) → length es ≤ 50 → scan_left most pages (behind (record before { leaf = leaf }) page.high page.right es) < scan_left most pages before
+    → IsArrived page (frontier_aim before.frontier) → length es ≤ 50 → scan_left most pages (after_reading (record before { leaf = leaf }) page.high page.right es) < scan_left most pages before
 reading_less most pages before leaf position b page es is found arrived few =
     let fewer = leaves_after before.frontier pages b page before.range.below found arrived in
     let walk = walk_after most page.high page.right before.range.below in

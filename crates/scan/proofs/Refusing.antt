@@ -28,7 +28,7 @@ refuses g op old new fault steps same none stops cause = record {
 
 -- where a page leads a scan on its way
 pub scan_led : (st : State) (op : ScanOp) (position : Position) (page : Page) (most : Limits) (result : Option NextPage) → op.at ≡ At position → IsInOrder st → (fits : ScanInvariant st op)
-    → slice_get st.pages position.block ≡ Some page → most ≡ sizes_of st.limits → length st.pages ≤ st.limits.pages
+    → slice_get st.pages position.block ≡ Some page → most ≡ sizes_of st.format → length st.pages ≤ st.format.pages
     → ((s : State) (start : ℕ) (clear : Bool) → HasTree s → slice_get s.pages position.block ≡ Some page → IsOnDescent s start (frontier_aim op.frontier) clear 0 position → (clear ≡ true → page.split ≡ false)
     → length s.pages ≤ most.pages → LeadsToNext s start (frontier_aim op.frontier) clear 0 position result)
     → LeadsToNext st fits.start (frontier_aim op.frontier) false 0 position result

@@ -23,7 +23,7 @@ pub rests : (old new : State) (table : Table) → new ≡ with_table old table �
 rests old new table is = subst (λ (st : State). IsOneActAtMost old st) (sym is) (record {
   acts = inl refl;
   quiet = λ same. refl;
-  limits = refl;
+  format = refl;
   frames = refl;
   begun = refl;
   running = refl;

@@ -32,5 +32,5 @@ FreshScansAreBounded =
 -- ... and for one at each moment of its steps
 abbrev pub ScansAreBounded : Type 0
 ScansAreBounded =
-    (st : State) (op : ScanOp) → IsInOrder st → st.limits.pages ≤ 65536 → ScanInvariant st op
-    → scan_left st.limits.pages st.pages op < 4398046511104
+    (st : State) (op : ScanOp) → IsInOrder st → st.format.pages ≤ 65536 → ScanInvariant st op
+    → scan_left st.format.pages st.pages op < 4398046511104

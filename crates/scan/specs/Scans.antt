@@ -69,8 +69,8 @@ abbrev pub moved_to : ScanOp → Position → ScanOp
 moved_to op position = record op { at = At position; leaf = None }
 
 -- a scan that has read a leaf, and has copied these entries
-abbrev pub behind : ScanOp → Option Bound → Option ℕ → List Entry → ScanOp
-behind op high right copied = record op {
+abbrev pub after_reading : ScanOp → Option Bound → Option ℕ → List Entry → ScanOp
+after_reading op high right copied = record op {
   at = after_leaf high right op.range.below;
   frontier = frontier_past op.frontier high;
   copied = record { items = copied };
@@ -125,9 +125,9 @@ pub record ScanInvariant (st : State) (op : ScanOp) : Type 0 where
 -- that isn't the last
 abbrev pub ScanHasLessLeft : State → ScanOp → ScanOp → Result ScanStep Fault → Type 0
 ScanHasLessLeft st before after (Ok Going) =
-    scan_left st.limits.pages st.pages after < scan_left st.limits.pages st.pages before
+    scan_left st.format.pages st.pages after < scan_left st.format.pages st.pages before
 ScanHasLessLeft st before after (Ok (Ready count)) = waiting before ≡ []
-    → scan_left st.limits.pages st.pages after < scan_left st.limits.pages st.pages before
+    → scan_left st.format.pages st.pages after < scan_left st.format.pages st.pages before
 ScanHasLessLeft st before after (Ok Done) = Unit {0}
 ScanHasLessLeft st before after (Err fault) = Unit {0}
 
@@ -246,8 +246,8 @@ pub record ScanSteps {S : Type 0} (g : Ghosts S) (before after : ScanOp) (old ne
       → ScanWaits (g.state old) (g.state new) before after result
   pub less : (g.backing new).honest ≡ true → ScanHasLessLeft (g.state old) before after result
   pub no_more : (g.backing new).honest ≡ true
-      → scan_left (g.state old).limits.pages (g.state old).pages after
-      ≤ scan_left (g.state old).limits.pages (g.state old).pages before
+      → scan_left (g.state old).format.pages (g.state old).pages after
+      ≤ scan_left (g.state old).format.pages (g.state old).pages before
   pub stepped : (g.backing new).honest ≡ true → IsInOrder (g.state old)
       → ScanInvariant (g.state old) before
       → ScanStepped (g.state old) (g.backing old) (g.state new) (g.backing new) before after result

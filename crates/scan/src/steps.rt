@@ -57,7 +57,7 @@ pub enum ScanStep {
 }
 
 impl ScanOp {
-    ghost use Rattle.scan.specs.Scans.{fresh_scan, waiting, moved_to, behind, ScanSteps, IsNext};
+    ghost use Rattle.scan.specs.Scans.{fresh_scan, waiting, moved_to, after_reading, ScanSteps, IsNext};
 
     /// A scan of the range before its first step.
     pub fn new(session: Session, range: Range) -> ScanOp
@@ -204,7 +204,7 @@ impl ScanOp {
         ensures copied { IsAscending entries.now → IsCopiedFrom entries.now self.old.frontier
             self.old.range.below self.new.copied.items }
         ensures many { length self.new.copied.items ≤ 50 }
-        ensures op { self.new ≡ behind self.old page.now.high page.now.right self.new.copied.items }
+        ensures op { self.new ≡ after_reading self.old page.now.high page.now.right self.new.copied.items }
     {
         self.copied = matches_beyond(entries, &self.frontier, &self.range.below);
         self.given = 0;

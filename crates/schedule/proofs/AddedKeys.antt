@@ -15,7 +15,7 @@ or_true true = refl
 or_true false = refl
 
 module _ {S : Type 0} (g : Ghosts S) (start : Entry → Bool) (now : Moment S) (number before : ℕ) (call : Call) (e x : Entry) (fits : Fits g start now)
-    (asked : (g.state now.store).limits.unique ≡ true) (found : slice_get now.calls number ≡ Some call) (ask : call.ask ≡ AskInsert e)
+    (asked : (g.state now.store).format.unique ≡ true) (found : slice_get now.calls number ≡ Some call) (ask : call.ask ≡ AskInsert e)
     (added : call.added ≡ Some (suc before)) (same : x.key ≡ e.key) where
   answer : IsInsertAnswer start now.history number call.began (end_of now.history call.ending call.until) e call.added call.ending
   answer = subst (λ (a : Ask). AnswersRight start now.history number call.began (end_of now.history call.ending call.until) a call.given call.added call.ending) ask
@@ -27,8 +27,8 @@ module _ {S : Type 0} (g : Ghosts S) (start : Entry → Bool) (now : Moment S) (
   here : is.before ≡ before
   here = (let n : suc before ≡ suc is.before = is.number_is in omega arith)
 
-  behind : (y : Entry) → is_there_after start now.history (suc before) y ≡ (same_entry e y || is_there_after start now.history before y)
-  behind y =
+  there_or_added : (y : Entry) → is_there_after start now.history (suc before) y ≡ (same_entry e y || is_there_after start now.history before y)
+  there_or_added y =
       ap (λ (l : List Action). contents_after start l y)
       (take_one_more now.history before (record { by = number; effect = Add e }) (subst (λ (n : ℕ). slice_get now.history n ≡ Some (record { by = number; effect = Add e })) here is.action_is))
       ∙ contents_after-add start (take before now.history) number e y
@@ -38,8 +38,8 @@ module _ {S : Type 0} (g : Ghosts S) (start : Entry → Bool) (now : Moment S) (
 
   clash : is_there_after start now.history before x ≡ true → ⊥
   clash there =
-      let x_after : is_there_after start now.history (suc before) x ≡ true = behind x ∙ rw there (or_true (same_entry e x)) in
-      let e_after : is_there_after start now.history (suc before) e ≡ true = behind e ∙ rw (same_entry-self e) refl in
+      let x_after : is_there_after start now.history (suc before) x ≡ true = there_or_added x ∙ rw there (or_true (same_entry e x)) in
+      let e_after : is_there_after start now.history (suc before) e ≡ true = there_or_added e ∙ rw (same_entry-self e) refl in
       let one : x ≡ e = fits.explains.unique asked (suc before) x e x_after e_after same in
       let e_there : is_there_after start now.history before e ≡ true = subst (λ (y : Entry). is_there_after start now.history before y ≡ true) one there in
       let false_true : false ≡ true = sym absent ∙ e_there in

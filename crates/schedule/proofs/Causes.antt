@@ -136,9 +136,9 @@ kept_by number from (call ∷ running) h = by (began_after number call) refl (λ
 -- no block can be had
 no_block : (st : State) → is_out_of_blocks st ≡ true → HasNoBlock st
 no_block st h =
-    let both = and_parts (nat_le st.limits.pages (length st.pages)) (not (any_is_reusable st (length st.pages))) h in
+    let both = and_parts (nat_le st.format.pages (length st.pages)) (not (any_is_reusable st (length st.pages))) h in
     record {
-      used = leb-true st.limits.pages (length st.pages) both.0;
+      used = leb-true st.format.pages (length st.pages) both.0;
       kept = λ block gone. kept_at block gone (slice_get st.pages block) refl (no_reuse both.1);
     }
   where
@@ -196,7 +196,7 @@ parted_few parent new target (Some right) = omega arith
 
 linked_few : (st : State) (target : Target) (parent : ℕ) (page : Option Page) → length (blocks_linked st target parent page) ≤ 4
 linked_few st target parent None = omega arith
-linked_few st target parent (Some page) = by (nat_le st.limits.items (length (links_of page.items)))
+linked_few st target parent (Some page) = by (nat_le st.format.items (length (links_of page.items)))
   where
     by : (b : Bool) → length (if b then parent ∷ fresh_block st ∷ sibling page.right ++ target.block ∷ [] else parent ∷ target.block ∷ []) ≤ 4
     by true = parted_few parent (fresh_block st) target.block page.right
@@ -248,7 +248,7 @@ halved_few st (Some right) = omega arith
 
 pub put_few : (st : State) (page : Option Page) → length (blocks_beside st page) ≤ 2
 put_few st None = omega arith
-put_few st (Some page) = by (nat_le st.limits.items (length (entries_of page.items)))
+put_few st (Some page) = by (nat_le st.format.items (length (entries_of page.items)))
   where
     by : (b : Bool) → length (if b then blocks_halved st page.right else []) ≤ 2
     by true = halved_few st page.right

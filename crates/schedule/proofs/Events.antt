@@ -23,21 +23,21 @@ true_false : true ≡ false → ⊥
 true_false h = cc
 
 -- what an event leaves as it was: a call is due after as many steps on the same pages, within the same limits
-leaves_be : {S : Type 0} (g : Ghosts S) (kind : Kind) (old new : Moment S) → (g.state new.store).limits ≡ (g.state old.store).limits → (g.state new.store).frames ≡ (g.state old.store).frames
+leaves_be : {S : Type 0} (g : Ghosts S) (kind : Kind) (old new : Moment S) → (g.state new.store).format ≡ (g.state old.store).format → (g.state new.store).frames ≡ (g.state old.store).frames
     → (new.history ≡ old.history → (g.state new.store).pages ≡ (g.state old.store).pages)
     → ((session : ℕ) → IsOfSession session kind → OthersStay session old.slots new.slots) → SameButForActs g kind old new
-leaves_be g kind old new limits frames pages others = record {
-  limits = limits;
+leaves_be g kind old new format frames pages others = record {
+  format = format;
   frames = frames;
   pages = pages;
   due = λ quiet session other of apart steps due.
       subst (λ (slot : Option Op). IsDueIn (g.state new.store) slot steps) (sym (ap (λ (o : Option (Option Op)). unwrap_or o None) (others session of other apart)))
-      (due_still (g.state old.store) (g.state new.store) (slot_of old.slots other) steps limits (pages quiet) due);
+      (due_still (g.state old.store) (g.state new.store) (slot_of old.slots other) steps format (pages quiet) due);
 }
 
 -- nothing at all is changed but the log and the device
 stays_be : {S : Type 0} (g : Ghosts S) (kind : Kind) (old new : Moment S) → g.state new.store ≡ g.state old.store → new.slots ≡ old.slots → SameButForActs g kind old new
-stays_be g kind old new same slots = leaves_be g kind old new (ap (λ (st : State). st.limits) same) (ap (λ (st : State). st.frames) same) (λ quiet. ap (λ (st : State). st.pages) same)
+stays_be g kind old new same slots = leaves_be g kind old new (ap (λ (st : State). st.format) same) (ap (λ (st : State). st.frames) same) (λ quiet. ap (λ (st : State). st.pages) same)
     (λ session of other apart. ap (λ (s : List (Option Op)). slice_get s other) slots)
 
 -- the slot of one session is set: what holds of what it ran and runs
@@ -63,7 +63,7 @@ pub fits_still : {S : Type 0} (g : Ghosts S) (start : Entry → Bool) (old : Mom
     → Fits g start (record { store = store; slots = old.slots; sets = old.sets; history = old.history; calls = old.calls })
 fits_still {S} g start old store same fits = fits_from (record {
   matches = subst (λ (st : State). Matches st start old.history) (sym same) (matches_of fits);
-  unique = λ asked. fits.explains.unique (ap (λ (st : State). st.limits.unique) (sym same) ∙ asked);
+  unique = λ asked. fits.explains.unique (ap (λ (st : State). st.format.unique) (sym same) ∙ asked);
   running = λ u o h. slot_still u o (running_of fits u o h);
   vacuums = subst (λ (st : State). OneVacuums st old.slots) (sym same) fits.invariant.vacuums;
   beyond = λ u far. subst (λ (st : State). IsIdle st u) (sym same) (beyond_of fits u far);
@@ -115,7 +115,7 @@ module _ {S : Type 0} (g : Ghosts S) (start : Entry → Bool) (old : Moment S) (
   unfolding new
   new_fits = goes_fits g start old store session one.after one.effect op slot fits found runs
       (told_same (old.history ++ acts_of runs.number one.effect) (length old.history) one.effect runs.call one.after runs.is.running (grown old.history runs.number one.effect) answer one.told)
-      one.asked others pinned one.limits one.world one.meets one.holds one.cycle one.leaves one.deletions
+      one.asked others pinned one.format one.world one.meets one.holds one.cycle one.leaves one.deletions
 
   no_effect : (effect : Option Effect) → old.history ++ acts_of runs.number effect ≡ old.history → effect ≡ None
   no_effect None same = refl
@@ -145,7 +145,7 @@ module _ {S : Type 0} (g : Ghosts S) (start : Entry → Bool) (old : Moment S) (
         (λ x y. CallIsFollowed (MovesCall session move) old.sets answer (g.state old.store) (g.state store) x y) found (followed start old.history runs.number runs.call fit);
     leaves = λ other block page apart there held. pinned other block page (λ e. apart (sym e)) there held;
     lows = lows_relied session (g.state old.store) (g.state store) others;
-    quiet = leaves_be g (MovesCall session move) old new one.limits one.frames (λ same. one.pages (no_effect one.effect same)) (others_stay_set old.slots session slot);
+    quiet = leaves_be g (MovesCall session move) old new one.format one.frames (λ same. one.pages (no_effect one.effect same)) (others_stay_set old.slots session slot);
     durable = told_durable answer (g.backing store).durable (length old.history) one.effect runs.call one.after one.told;
     follows = follows;
     later = later;
@@ -181,7 +181,7 @@ module _ {S : Type 0} (g : Ghosts S) (start : Entry → Bool) (old : Moment S) (
         no_more = λ acts. omega arith;
       })
   follows_on (MovesCall session Takes) before idle = λ steps due.
-      due_still (g.state old.store) (g.state store) before steps (ap (λ (st : State). st.limits) same) (ap (λ (st : State). st.pages) same) due
+      due_still (g.state old.store) (g.state store) before steps (ap (λ (st : State). st.format) same) (ap (λ (st : State). st.pages) same) due
   follows_on (MovesCall session GivesUp) before idle = tt
   follows_on (MaintainsStore upkeep) before idle = tt
 
@@ -294,9 +294,9 @@ pub request_pages : (v : Bool) (session : ℕ) (st : State) → (after_request v
 request_pages true session st = refl
 request_pages false session st = refl
 
-pub request_limits : (v : Bool) (session : ℕ) (st : State) → (after_request v session st).limits ≡ st.limits
-request_limits true session st = refl
-request_limits false session st = refl
+pub request_format : (v : Bool) (session : ℕ) (st : State) → (after_request v session st).format ≡ st.format
+request_format true session st = refl
+request_format false session st = refl
 
 pub request_frames : (v : Bool) (session : ℕ) (st : State) → (after_request v session st).frames ≡ st.frames
 request_frames true session st = refl
@@ -331,8 +331,8 @@ module _ {S : Type 0} (g : Ghosts S) (start : Entry → Bool) (old : Moment S) (
   same_pages : (g.state store).pages ≡ (g.state old.store).pages
   same_pages = ap (λ (st : State). st.pages) state ∙ request_pages (asks_bulk_delete request) session (g.state old.store)
 
-  same_limits : (g.state store).limits ≡ (g.state old.store).limits
-  same_limits = ap (λ (st : State). st.limits) state ∙ request_limits (asks_bulk_delete request) session (g.state old.store)
+  same_format : (g.state store).format ≡ (g.state old.store).format
+  same_format = ap (λ (st : State). st.format) state ∙ request_format (asks_bulk_delete request) session (g.state old.store)
 
   -- it is a bulk delete or a cleanup exactly if one was asked for
   vacuum_is : is_vacuum op ≡ asks_vacuum request
@@ -402,7 +402,7 @@ module _ {S : Type 0} (g : Ghosts S) (start : Entry → Bool) (old : Moment S) (
       let within : session < length old.slots = get_within old.slots session None free in
       fits_from (record {
         matches = begins.world;
-        unique = λ asked. fits.explains.unique (ap (λ (f : Format). f.unique) (sym same_limits) ∙ asked);
+        unique = λ asked. fits.explains.unique (ap (λ (f : Format). f.unique) (sym same_format) ∙ asked);
         running = λ u o h. elim (cases_eq u session) [
           | inl e ↦ (
               let k : o ≡ Some op = same_some (slice_get (slice_set old.slots session (Some op)) session) o (Some op)
@@ -450,7 +450,7 @@ module _ {S : Type 0} (g : Ghosts S) (start : Entry → Bool) (old : Moment S) (
       followed = λ told. subst (λ (x : Option Op). HasSteps (g.state old.store) (g.state store) request x) (sym (set_is old.slots session (Some op) (get_within old.slots session None free))) counts;
       leaves = λ other block page apart there pinned. leaf_same (g.state old.store) (g.state store) same_pages block page there;
       lows = lows_still (g.state old.store) (g.state store) same_pages;
-      quiet = leaves_be g (BeginsCall session request) old begun same_limits (ap (λ (st : State). st.frames) state ∙ request_frames (asks_bulk_delete request) session (g.state old.store))
+      quiet = leaves_be g (BeginsCall session request) old begun same_format (ap (λ (st : State). st.frames) state ∙ request_frames (asks_bulk_delete request) session (g.state old.store))
           (λ same. same_pages) (others_stay_set old.slots session (Some op));
       durable = tt;
       follows = follows;

@@ -14,7 +14,7 @@ none_beyond (x ∷ xs) (suc i) h = let le : length xs ≤ i = none_beyond xs i h
 -- the parts of a moment that fits, session by session
 pub record Parts {S : Type 0} (g : Ghosts S) (start : Entry → Bool) (now : Moment S) : Type 0 where
   pub matches : Matches (g.state now.store) start now.history
-  pub unique : (g.state now.store).limits.unique ≡ true → (k : ℕ) → KeysDiffer (is_there_after start now.history k)
+  pub unique : (g.state now.store).format.unique ≡ true → (k : ℕ) → KeysDiffer (is_there_after start now.history k)
   pub running : (session : ℕ) (slot : Option Op) → slice_get now.slots session ≡ Some slot → SlotMatches g start now session slot
   pub vacuums : OneVacuums (g.state now.store) now.slots
   pub beyond : (session : ℕ) → length now.slots ≤ session → IsIdle (g.state now.store) session

@@ -71,7 +71,7 @@ module _ {S : Type 0} (g : Ghosts S) (start : Entry → Bool) (old : Moment S) (
     (same : IsSameCall (old.history ++ acts_of runs.number effect) (length old.history) effect runs.call after)
     (asked : IsAsked (contents_after start old.history) runs.call.ask runs.call.added effect)
     (others : OthersRely session (g.state old.store) (g.state store)) (pinned : PinnedLeafPagesStay session (g.state old.store) (g.state store))
-    (limits : (g.state store).limits ≡ (g.state old.store).limits)
+    (format : (g.state store).format ≡ (g.state old.store).format)
     (world : Matches (g.state store) start (old.history ++ acts_of runs.number effect)) (meets : Meets start (old.history ++ acts_of runs.number effect) runs.number after)
     (holds : SlotIs (g.state store) old.sets start (old.history ++ acts_of runs.number effect) after slot)
     (cycle : (g.state store).cycle ≡ cycle_after runs.call.ask slot (g.state old.store).cycle)
@@ -215,7 +215,7 @@ module _ {S : Type 0} (g : Ghosts S) (start : Entry → Bool) (old : Moment S) (
   goes_fits = fits_from (record {
     matches = world;
     unique = λ asked. keys_go_on (g.state store) start old.history acts (acts_few runs.number effect) world asked
-        (fits.explains.unique (ap (λ (f : Format). f.unique) (sym limits) ∙ asked));
+        (fits.explains.unique (ap (λ (f : Format). f.unique) (sym format) ∙ asked));
     running = λ u o h. elim (cases_eq u session) [
       | inl e ↦ (
           let k : o ≡ slot = same_some (slice_get (slice_set old.slots session slot) session) o slot (subst (λ (i : ℕ). slice_get (slice_set old.slots session slot) i ≡ Some o) e h)

@@ -14,7 +14,7 @@ runs_none (Some (Some op)) h = absurd cc
 
 -- nothing is changed
 nothing_done : (st : State) → DoesOneAct st st
-nothing_done st = record { acts = inl refl; quiet = λ same. refl; limits = refl; frames = refl }
+nothing_done st = record { acts = inl refl; quiet = λ same. refl; format = refl; frames = refl }
 
 module _ {S : Type 0} (g : Ghosts S) (laws : Laws g) (store : S) (slots : List (Option Op)) (sets : DeadSets) (session : ℕ) (idle : has_call slots session ≡ false) where
   none : slot_of slots session ≡ None
@@ -56,7 +56,7 @@ module _ {S : Type 0} (g : Ghosts S) (laws : Laws g) (store : S) (slots : List (
   no_end (Some None) h = refl
   no_end (Some (Some op)) h = absurd cc
 
-  step_always : (fault : Fault) → ((g.backing store).stopped ≡ true → Refused fault ≡ Refused Stopped) → HasCause (causes_of_slot_stepped_any (g.state store).limits.unique None) fault
+  step_always : (fault : Fault) → ((g.backing store).stopped ≡ true → Refused fault ≡ Refused Stopped) → HasCause (causes_of_slot_stepped_any (g.state store).format.unique None) fault
       → EventAlways g (MovesCall session Steps) (Refused fault) (here_with store slots sets) (here_with store slots sets)
   step_always fault stopped cause = record {
     answers = subst (λ (x : Option Op). AnswersStep x x (Refused fault)) (sym none) tt;

@@ -9,19 +9,19 @@ use Rattle.schedule.proofs.Imports.{AnswersEnd, RefusalChangesNothing, RunsUntil
 use Rattle.schedule.proofs.Imports.{Checkpointed, Refused, Op, Request, snapshot_of, Fits, slot_of, one_vacuums, is_of_sets, session_to_begin, here_with, Steps, Takes, GivesUp, Upkeep, Forces}
 use Rattle.schedule.proofs.Imports.{Flushes, Checkpoints, BeginsCall, MovesCall, MaintainsStore, kept_answer, causes_of_begun_at, DoesOneAct, EventAlways, CallIsFollowed, AnswersUpkeep, IsFlushed}
 use Rattle.schedule.proofs.Imports.{UpkeepChanges, EventRuns, EventEffect}
-use Rattle.schedule.proofs.Events.{at_slots, others_stay_set, moves_on, stays_on, refused_stay, keeps_on_store, flushes_on_store, begins_on, named_of, request_pages, request_limits, request_frames, request_acts, not_begun, not_found_why, not_found_first, none_begins, set_same}
+use Rattle.schedule.proofs.Events.{at_slots, others_stay_set, moves_on, stays_on, refused_stay, keeps_on_store, flushes_on_store, begins_on, named_of, request_pages, request_format, request_frames, request_acts, not_begun, not_found_why, not_found_first, none_begins, set_same}
 use Rattle.schedule.proofs.Keeping.{Laws}
 use Rattle.schedule.proofs.Lists.{length_set, get_within, same_some}
 use Rattle.schedule.proofs.Vacuums.{set_is, not_excluded}
 use Rattle.schedule.proofs.Fitting.{matches_of, running_of}
 
 -- what does no act
-no_act : (old new : State) → new.acts ≡ old.acts → new.pages ≡ old.pages → new.limits ≡ old.limits → new.frames ≡ old.frames → DoesOneAct old new
-no_act old new acts pages limits frames = record { acts = inl acts; quiet = λ same. pages; limits = limits; frames = frames }
+no_act : (old new : State) → new.acts ≡ old.acts → new.pages ≡ old.pages → new.format ≡ old.format → new.frames ≡ old.frames → DoesOneAct old new
+no_act old new acts pages format frames = record { acts = inl acts; quiet = λ same. pages; format = format; frames = frames }
 
 -- what changes no state
 still : (old new : State) → new ≡ old → DoesOneAct old new
-still old new same = no_act old new (ap (λ (st : State). st.acts) same) (ap (λ (st : State). st.pages) same) (ap (λ (st : State). st.limits) same) (ap (λ (st : State). st.frames) same)
+still old new same = no_act old new (ap (λ (st : State). st.acts) same) (ap (λ (st : State). st.pages) same) (ap (λ (st : State). st.format) same) (ap (λ (st : State). st.frames) same)
 
 -- what a call lets go at its end is neither a page nor a count
 over_acts : (v : Bool) (session : ℕ) (st : State) → (let_go v session st).acts ≡ st.acts
@@ -32,9 +32,9 @@ over_pages : (v : Bool) (session : ℕ) (st : State) → (let_go v session st).p
 over_pages true session st = refl
 over_pages false session st = refl
 
-over_limits : (v : Bool) (session : ℕ) (st : State) → (let_go v session st).limits ≡ st.limits
-over_limits true session st = refl
-over_limits false session st = refl
+over_format : (v : Bool) (session : ℕ) (st : State) → (let_go v session st).format ≡ st.format
+over_format true session st = refl
+over_format false session st = refl
 
 over_frames : (v : Bool) (session : ℕ) (st : State) → (let_go v session st).frames ≡ st.frames
 over_frames true session st = refl
@@ -86,7 +86,7 @@ module _ {S : Type 0} (g : Ghosts S) (laws : Laws g) (old new : S) (follows_stor
         refused = at_slots slots session before slot (λ x y. RefusalChangesNothing (g.state old) (g.state new) x y answer) found_at made.refused;
         stopped = λ h. subst (λ (x : Option Op). StoppedAnswersFirst (slot_add x) answer) (sym slot_was) (made.stopped h);
         less = λ honest. at_slots slots session before slot (λ x y. StepHasLessLeft (g.state old) (g.state new) x y answer) found_at (made.less honest);
-        kept = record { acts = made.kept.acts; quiet = made.kept.quiet; limits = made.kept.limits; frames = made.kept.frames };
+        kept = record { acts = made.kept.acts; quiet = made.kept.quiet; format = made.kept.format; frames = made.kept.frames };
         calm = subst (λ (x : Option Op). OnlyWritersAct x (g.state old) (g.state new)) (sym slot_was) made.calm;
         others = others_stay_set slots session slot;
         left = tt;
@@ -126,7 +126,7 @@ module _ {S : Type 0} (g : Ghosts S) (laws : Laws g) (old new : S) (follows_stor
         less = tt;
         kept = no_act (g.state old) (g.state new) (ap (λ (st : State). st.acts) given_up ∙ over_acts (is_bulk_delete op) (session_of op) (g.state old))
             (ap (λ (st : State). st.pages) given_up ∙ over_pages (is_bulk_delete op) (session_of op) (g.state old))
-            (ap (λ (st : State). st.limits) given_up ∙ over_limits (is_bulk_delete op) (session_of op) (g.state old))
+            (ap (λ (st : State). st.format) given_up ∙ over_format (is_bulk_delete op) (session_of op) (g.state old))
             (ap (λ (st : State). st.frames) given_up ∙ over_frames (is_bulk_delete op) (session_of op) (g.state old));
         calm = ap (λ (st : State). st.acts) given_up ∙ over_acts (is_bulk_delete op) (session_of op) (g.state old);
         others = others_stay_set slots session slot;
@@ -403,7 +403,7 @@ module _ {S : Type 0} (g : Ghosts S) (laws : Laws g) (old new : S) (follows : g.
     less = tt;
     kept = no_act (g.state old) (g.state new) (ap (λ (st : State). st.acts) h.state ∙ request_acts (asks_bulk_delete request) session (g.state old))
         (ap (λ (st : State). st.pages) h.state ∙ request_pages (asks_bulk_delete request) session (g.state old))
-        (ap (λ (st : State). st.limits) h.state ∙ request_limits (asks_bulk_delete request) session (g.state old))
+        (ap (λ (st : State). st.format) h.state ∙ request_format (asks_bulk_delete request) session (g.state old))
         (ap (λ (st : State). st.frames) h.state ∙ request_frames (asks_bulk_delete request) session (g.state old));
     calm = ap (λ (st : State). st.acts) h.state ∙ request_acts (asks_bulk_delete request) session (g.state old);
     others = others_stay_set slots session slot;

@@ -430,7 +430,7 @@ does_of {S} {g} {start} {kind} {answer} {old} {new} fits then_fits sets also = r
   means = record {
     means = event_means g start old fits new kind answer also.happens also.caused;
     sets = sets;
-    limits = also.quiet.limits;
+    format = also.quiet.format;
     explains = then_fits.explains;
   };
   also = also;

@@ -49,7 +49,7 @@ event_goes g laws start event answer old new fits does = record {
   means = does.means;
   also = does.also;
   crash = λ keeps. safe g laws start old new does.also.follows keeps.own (matches_of (fits_after does))
-      (keeps_on g laws start old new does.also.follows does.also.quiet.limits does.also.grows fits.explains.count (matches_of (fits_after does)) keeps);
+      (keeps_on g laws start old new does.also.follows does.also.quiet.format does.also.grows fits.explains.count (matches_of (fits_after does)) keeps);
 }
 
 -- one event is a run

@@ -154,7 +154,7 @@ due_over g start session told (event ∷ events) (answer ∷ answers) first last
     let one = event_due g start session first run.1.0 quiet steps due (kind_of event) answer (goes_does run.1.1) waits.0 in
     let rest = due_over g start session (told ++ answer ∷ []) events answers run.1.0 last run.1.2 (same ∙ sym quiet) waits.1 one.0 one.2 in
     let here : goes_on session (kind_of event) answer + suc one.0 ≡ suc steps = one.1 in
-    let behind : steps_gone session events answers + suc rest.0 ≡ suc one.0 = rest.1 in
+    let counted : steps_gone session events answers + suc rest.0 ≡ suc one.0 = rest.1 in
     (rest.0, omega arith, rest.2)
 due_over g start session told [] (answer ∷ answers) first last run same waits steps due = absurd run
 due_over g start session told (event ∷ events) [] first last run same waits steps due = absurd run

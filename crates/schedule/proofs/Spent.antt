@@ -69,8 +69,8 @@ module _ {S : Type 0} (g : Ghosts S) (start : Entry → Bool) (session : ℕ) (o
   -- pages and limits are as they were
   there : (kind : Kind) (answer : Answer) → EventDoes g start kind answer old new → (slot : Option Op) → work_in (g.state new.store) slot ≡ work_in (g.state old.store) slot
   there kind answer does slot =
-      ap (λ (pages : List Page). work_left (g.state new.store).limits.pages pages slot) (does.also.quiet.pages quiet)
-      ∙ ap (λ (most : ℕ). work_left most (g.state old.store).pages slot) (ap (λ (l : Format). l.pages) does.also.quiet.limits)
+      ap (λ (pages : List Page). work_left (g.state new.store).format.pages pages slot) (does.also.quiet.pages quiet)
+      ∙ ap (λ (most : ℕ). work_left most (g.state old.store).pages slot) (ap (λ (l : Format). l.pages) does.also.quiet.format)
 
   same_acts : (kind : Kind) (answer : Answer) → EventDoes g start kind answer old new → (g.state new.store).acts ≡ (g.state old.store).acts
   same_acts kind answer does = (fits_after does).explains.count ∙ ap length quiet ∙ sym fits.explains.count
@@ -139,7 +139,7 @@ module _ {S : Type 0} (g : Ghosts S) (start : Entry → Bool) (session : ℕ) (o
   event_spends (MovesCall of Takes) answer does none = elim (cases_eq of session) [
     | inl e ↦ (
         let its : EventDoes g start (MovesCall session Takes) answer old new = subst (λ (s : ℕ). EventDoes g start (MovesCall s Takes) answer old new) e does in
-        let most = given_work before after answer its.also.always.less (g.state old.store).limits.pages (g.state old.store).pages in
+        let most = given_work before after answer its.also.always.less (g.state old.store).format.pages (g.state old.store).pages in
         let same = there (MovesCall session Takes) answer its after in
         omega (arith, most, same))
     | inr n ↦ (let most = elsewhere (MovesCall of Takes) answer does of refl (λ e. n (sym e)) in omega (arith, most))

@@ -20,7 +20,7 @@ true_false h = cc
 -- a leaf isn't the metapage
 leaf_above : (st : State) (block : ℕ) (page : Page) → IsInOrder st → IsLeafAt st.pages block page → 1 ≤ block
 leaf_above st block page order at =
-    let s = stored_page st.limits block st.pages page order.tree.stored at.found in
+    let s = stored_page st.format block st.pages page order.tree.stored at.found in
     let above = (leaf_is page s.storable.admitted at.leaf).0 in
     subst (λ (b : ℕ). 1 ≤ b) s.block_is (omega (arith, above))
 
@@ -90,24 +90,24 @@ module _ {S : Type 0} (g : Ghosts S) (start : Entry → Bool) where
       → (op next : Op) → slice_get old.slots session ≡ Some (Some op) → slice_get new.slots session ≡ Some (Some next) → asked_of new.sets next ≡ asked_of old.sets op
   moved_asks session move answer old new fits does op next was is =
       let before : SlotRuns g start old session op = running_of fits session (Some op) was in
-      let behind : SlotRuns g start new session next = running_of (fits_after does) session (Some next) is in
+      let runs_on : SlotRuns g start new session next = running_of (fits_after does) session (Some next) is in
       let goes : CallMoves g start session answer old new = subst (λ (b : Bool). MovesOn g start b session answer old new) (ap slot_has_call was) does.also.happens in
       let number_is : goes.number ≡ before.number = before.only goes.number goes.call goes.is in
       let call_is : goes.call ≡ before.call =
       same_some (slice_get old.calls before.number) goes.call before.call (subst (λ (n : ℕ). slice_get old.calls n ≡ Some goes.call) number_is goes.is.found) before.is.found in
-      let found : slice_get (slice_set old.calls goes.number goes.after) behind.number ≡ Some behind.call =
-      subst (λ (l : List Call). slice_get l behind.number ≡ Some behind.call) goes.calls_is behind.is.found in
-      let same : behind.number ≡ goes.number = elim (cases_eq behind.number goes.number) [
+      let found : slice_get (slice_set old.calls goes.number goes.after) runs_on.number ≡ Some runs_on.call =
+      subst (λ (l : List Call). slice_get l runs_on.number ≡ Some runs_on.call) goes.calls_is runs_on.is.found in
+      let same : runs_on.number ≡ goes.number = elim (cases_eq runs_on.number goes.number) [
         | inl e ↦ e
-        | inr n ↦ absurd (n (before.only behind.number behind.call
-            (record { found = sym (get_set_other old.calls goes.number behind.number goes.after n) ∙ found; session_is = behind.is.session_is; running = behind.is.running }) ∙ sym number_is))
+        | inr n ↦ absurd (n (before.only runs_on.number runs_on.call
+            (record { found = sym (get_set_other old.calls goes.number runs_on.number goes.after n) ∙ found; session_is = runs_on.is.session_is; running = runs_on.is.running }) ∙ sym number_is))
       ] in
-      let after_is : behind.call ≡ goes.after = same_some (slice_get (slice_set old.calls goes.number goes.after) goes.number) behind.call goes.after
-      (subst (λ (n : ℕ). slice_get (slice_set old.calls goes.number goes.after) n ≡ Some behind.call) same found)
+      let after_is : runs_on.call ≡ goes.after = same_some (slice_get (slice_set old.calls goes.number goes.after) goes.number) runs_on.call goes.after
+      (subst (λ (n : ℕ). slice_get (slice_set old.calls goes.number goes.after) n ≡ Some runs_on.call) same found)
       (get_set_same old.calls goes.number goes.after (get_within old.calls goes.number goes.call goes.is.found)) in
       let kept : IsSameCall (old.history ++ acts_of goes.number goes.effect) (length old.history) goes.effect goes.call goes.after =
       told_same (old.history ++ acts_of goes.number goes.effect) (length old.history) goes.effect goes.call goes.after goes.is.running (grown old.history goes.number goes.effect) answer goes.told in
-      sym behind.runs.ask ∙ ap (λ (c : Call). c.ask) after_is ∙ kept.ask ∙ ap (λ (c : Call). c.ask) call_is ∙ before.runs.ask
+      sym runs_on.runs.ask ∙ ap (λ (c : Call). c.ask) after_is ∙ kept.ask ∙ ap (λ (c : Call). c.ask) call_is ∙ before.runs.ask
 
   -- ... so it is a bulk delete only if it was one
   moved_sweep : (session : ℕ) (move : Move) (answer : Answer) (old new : Moment S) → Fits g start old → EventDoes g start (MovesCall session move) answer old new
@@ -251,16 +251,16 @@ module _ {S : Type 0} (g : Ghosts S) (start : Entry → Bool) where
     leaf_quiet kind answer does same = leaf_same (g.state old.store) (g.state new.store) (does.also.always.kept.quiet same) block leaf.page leaf.was
 
     -- a scan's own step does no act, and others leave it its leaf
-    leaf_behind : (kind : Kind) (answer : Answer) → EventDoes g start kind answer old new → HasLeaf g block new
-    leaf_behind (BeginsCall session request) answer does = leaf_quiet (BeginsCall session request) answer does does.also.always.calm
-    leaf_behind (MovesCall session Steps) answer does = elim (cases_eq session stander) [
+    leaf_after : (kind : Kind) (answer : Answer) → EventDoes g start kind answer old new → HasLeaf g block new
+    leaf_after (BeginsCall session request) answer does = leaf_quiet (BeginsCall session request) answer does does.also.always.calm
+    leaf_after (MovesCall session Steps) answer does = elim (cases_eq session stander) [
       | inl e ↦ leaf_quiet (MovesCall session Steps) answer does
           (subst (λ (o : Option Op). OnlyWritersAct o (g.state old.store) (g.state new.store)) (ap (λ (s : ℕ). slot_of old.slots s) e ∙ stands.runs) does.also.always.calm)
       | inr n ↦ does.also.leaves stander block leaf.page n leaf.was (stands_pinned stander block old fits stands)
     ]
-    leaf_behind (MovesCall session Takes) answer does = leaf_quiet (MovesCall session Takes) answer does does.also.always.calm
-    leaf_behind (MovesCall session GivesUp) answer does = leaf_quiet (MovesCall session GivesUp) answer does does.also.always.calm
-    leaf_behind (MaintainsStore upkeep) answer does = leaf_quiet (MaintainsStore upkeep) answer does does.also.always.calm
+    leaf_after (MovesCall session Takes) answer does = leaf_quiet (MovesCall session Takes) answer does does.also.always.calm
+    leaf_after (MovesCall session GivesUp) answer does = leaf_quiet (MovesCall session GivesUp) answer does does.also.always.calm
+    leaf_after (MaintainsStore upkeep) answer does = leaf_quiet (MaintainsStore upkeep) answer does does.also.always.calm
 
 waits_on_leaf : {S : Type 0} (g : Ghosts S) (start : Entry → Bool) (told : List Answer) (events : List Event) (answers : List Answer) (first last : Moment S) → Fits g start first
     → (run : IsRun g start told events answers first last) → (session block : ℕ) → BeforeEach g start (StandsOn session block) told events answers first last run
@@ -269,7 +269,7 @@ waits_on_leaf {S} g start told [] [] first last fits run session block stands le
     (tt, subst (λ (m : Moment S). NoneHasCome block m) run none, subst (λ (m : Moment S). HasLeaf g block m) run leaf)
 waits_on_leaf g start told (event ∷ events) (answer ∷ answers) first last fits run session block stands leaf none =
     let one = event_keeps g start session block first run.1.0 fits stands.0 leaf none (kind_of event) answer (goes_does run.1.1) in
-    let still = leaf_behind g start session block first run.1.0 fits stands.0 leaf none (kind_of event) answer (goes_does run.1.1) in
+    let still = leaf_after g start session block first run.1.0 fits stands.0 leaf none (kind_of event) answer (goes_does run.1.1) in
     let rest = waits_on_leaf g start (told ++ answer ∷ []) events answers run.1.0 last (fits_after (goes_does run.1.1)) run.1.2 session block stands.1 still one.1 in
     ((one.0, rest.0), rest.1, rest.2)
 waits_on_leaf g start told [] (answer ∷ answers) first last fits run session block stands leaf none = absurd run

@@ -9,8 +9,8 @@ use Rattle.schedule.proofs.Keeping.{Laws, safe, keeps_on, no_growth}
 pub same_state_fits : {S : Type 0} (g : Ghosts S) (laws : Laws g) → SameStateFits g
 same_state_fits {S} g laws start old store follows same fits =
     let still : Fits g start (record old { store = store }) = fits_still g start old store same fits in
-    let limits : (g.state store).limits ≡ (g.state old.store).limits = ap (λ (st : State). st.limits) same in (
+    let format : (g.state store).format ≡ (g.state old.store).format = ap (λ (st : State). st.format) same in (
       still,
       λ keeps. safe g laws start old (record old { store = store }) follows keeps.own (matches_of still)
-          (keeps_on g laws start old (record old { store = store }) follows limits (no_growth old.history) fits.explains.count (matches_of still) keeps),
+          (keeps_on g laws start old (record old { store = store }) follows format (no_growth old.history) fits.explains.count (matches_of still) keeps),
     )

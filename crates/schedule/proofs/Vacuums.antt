@@ -74,8 +74,8 @@ vacuums_still old new slots session slot within same deletions cycle h = record 
 
 -- the one that runs ends
 module _ (old : State) (slots : List (Option Op)) (session : ℕ) (within : session < length slots) (was : slot_vacuums (slot_of slots session) ≡ true) (h : OneVacuums old slots) where
-  none_behind : (a : ℕ) → slot_vacuums (slot_of (slice_set slots session None) a) ≡ true → ⊥
-  none_behind a va = elim (cases_eq a session) [
+  none_left : (a : ℕ) → slot_vacuums (slot_of (slice_set slots session None) a) ≡ true → ⊥
+  none_left a va = elim (cases_eq a session) [
     | inl e ↦ true_false (sym (subst (λ (s : ℕ). slot_vacuums (slot_of (slice_set slots session None) s) ≡ true) e va) ∙ ap slot_vacuums (set_is slots session None within))
     | inr n ↦ n (h.alone a session (sym (ap slot_vacuums (set_other slots session a None n)) ∙ va) was)
   ]
@@ -83,10 +83,10 @@ module _ (old : State) (slots : List (Option Op)) (session : ℕ) (within : sess
   none_sweeps : one_is_bulk_delete (slice_set slots session None) ≡ false
   none_sweeps = not_true (one_is_bulk_delete (slice_set slots session None)) (λ one.
       (let some = any_true slot_is_bulk_delete refl (slice_set slots session None) one in
-      none_behind some.0 (sweep_vacuums (slot_of (slice_set slots session None) some.0) some.1)))
+      none_left some.0 (sweep_vacuums (slot_of (slice_set slots session None) some.0) some.1)))
 
   pub vacuums_end : (new : State) → runs_bulk_delete new ≡ false → OneVacuums new (slice_set slots session None)
-  vacuums_end new cycle = record { alone = λ a b va vb. absurd (none_behind a va); cycle = cycle ∙ sym none_sweeps }
+  vacuums_end new cycle = record { alone = λ a b va vb. absurd (none_left a va); cycle = cycle ∙ sym none_sweeps }
 
 -- none runs if none of the slots vacuums
 pub none_runs : (slots : List (Option Op)) → one_vacuums slots ≡ false → (session : ℕ) → slot_vacuums (slot_of slots session) ≡ true → ⊥

@@ -10,5 +10,5 @@ use Rattle.session_calls.specs.Slots.{slot_of}
 -- fewer than 2^42 steps, and entries to give, are left while the pages stay as they are
 abbrev pub WorkIsBounded : {S : Type 0} → Ghosts S → Type 0
 WorkIsBounded {S} g =
-    (start : Entry → Bool) (now : Moment S) → Fits g start now → (g.state now.store).limits.pages ≤ 65536 → (session : ℕ)
+    (start : Entry → Bool) (now : Moment S) → Fits g start now → (g.state now.store).format.pages ≤ 65536 → (session : ℕ)
     → work_in (g.state now.store) (slot_of now.slots session) < 4398046511104

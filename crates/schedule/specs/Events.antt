@@ -121,7 +121,7 @@ pub record IsFlushed {S : Type 0} (g : Ghosts S) (block : Option ℕ) (old new :
 -- after a checkpoint no page waits, and the log has its whole room
 pub record IsCheckpointed {S : Type 0} (g : Ghosts S) (old new : S) : Type 0 where
   pub none : (g.backing new).changed ≡ []
-  pub room : LogIsClosed (g.state old).limits (g.backing new)
+  pub room : LogIsClosed (g.state old).format (g.backing new)
 
 -- a force that fails leaves the log stopped
 pub record IsNotForced {S : Type 0} (g : Ghosts S) (old new : S) : Type 0 where
@@ -304,11 +304,11 @@ session_at (BeginsCall session request) = session
 session_at (MovesCall session move) = session
 session_at (MaintainsStore upkeep) = 0
 
--- an event does one act at most, and with none the pages are as they were; so are limits and frames
+-- an event does one act at most, and with none the pages are as they were; so are format and frames
 pub record DoesOneAct (old new : State) : Type 0 where
   pub acts : (new.acts ≡ old.acts) ⊎ (new.acts ≡ suc old.acts)
   pub quiet : new.acts ≡ old.acts → new.pages ≡ old.pages
-  pub limits : new.limits ≡ old.limits
+  pub format : new.format ≡ old.format
   pub frames : new.frames ≡ old.frames
 
 -- only a step of an insert, of a bulk delete or of a cleanup does an act
@@ -427,10 +427,10 @@ KeepsPinnedLeaves kind old new =
     (session block : ℕ) (page : Page) → (IsOfSession session kind → ⊥) → IsLeafAt old.pages block page
     → has_pin (holding_of old.table session).pins block ≡ true → WasLeaf new.pages block
 
--- What an event leaves as it was: the limits and the number of frames; and if it appends no action, the
+-- What an event leaves as it was: the format and the number of frames; and if it appends no action, the
 -- pages. So an event of others that appends no action costs a call that is due no step.
 pub record SameButForActs {S : Type 0} (g : Ghosts S) (kind : Kind) (old new : Moment S) : Type 0 where
-  pub limits : (g.state new.store).limits ≡ (g.state old.store).limits
+  pub format : (g.state new.store).format ≡ (g.state old.store).format
   pub frames : (g.state new.store).frames ≡ (g.state old.store).frames
   pub pages : new.history ≡ old.history → (g.state new.store).pages ≡ (g.state old.store).pages
   pub due : new.history ≡ old.history → (session other : ℕ) → IsOfSession session kind → other ≢ session
@@ -459,7 +459,7 @@ pub record EventAlso {S : Type 0} (g : Ghosts S) (start : Entry → Bool) (kind 
   pub leaves : KeepsPinnedLeaves kind (g.state old.store) (g.state new.store)
   -- no low of a page that isn't deleted rises
   pub lows : NoLowRises (g.state old.store).pages (g.state new.store).pages
-  -- the limits and the number of frames are as they were; so are the pages, if it appends no action
+  -- the format and the number of frames are as they were; so are the pages, if it appends no action
   pub quiet : SameButForActs g kind old new
   -- a number that it answers as durable is
   pub durable : IsDurable (g.backing new.store).durable answer

@@ -10,6 +10,6 @@ use Rattle.schedule.specs.TheoremRuns.{Fits}
 -- if an insert added its entry to a unique index, no entry of its key was there just before
 abbrev pub AddedKeysAreNew : {S : Type 0} → Ghosts S → Type 0
 AddedKeysAreNew {S} g =
-    (start : Entry → Bool) (now : Moment S) (number before : ℕ) (call : Call) (e x : Entry) → Fits g start now → (g.state now.store).limits.unique ≡ true
+    (start : Entry → Bool) (now : Moment S) (number before : ℕ) (call : Call) (e x : Entry) → Fits g start now → (g.state now.store).format.unique ≡ true
     → slice_get now.calls number ≡ Some call → call.ask ≡ AskInsert e → call.added ≡ Some (suc before) → x.key ≡ e.key
     → is_there_after start now.history before x ≡ false

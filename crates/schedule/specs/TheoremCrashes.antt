@@ -19,7 +19,7 @@ pub record ArePagesAfter (unique : Bool) (start : Entry → Bool) (history : Lis
 -- of the history; and no more acts are durable than the history has actions
 pub record KeepsHistory {S : Type 0} (g : Ghosts S) (start : Entry → Bool) (now : Moment S) : Type 0 where
   pub own : g.own now.store
-  pub parts : (part : ℕ) → part ≤ length now.history → ArePagesAfter (g.state now.store).limits.unique start (take part now.history) (g.past now.store part)
+  pub parts : (part : ℕ) → part ≤ length now.history → ArePagesAfter (g.state now.store).format.unique start (take part now.history) (g.past now.store part)
   pub durable : (g.backing now.store).durable ≤ length now.history
 
 -- these bytes restart to pages whose contents are those after a prefix of the history, of at least `least`
@@ -30,7 +30,7 @@ pub record RestartsToPrefix {S : Type 0} (g : Ghosts S) (start : Entry → Bool)
   pub to : part ≤ length now.history
   pub pages : List Page
   pub restarts : g.restarts now.store image pages
-  pub are : ArePagesAfter (g.state now.store).limits.unique start (take part now.history) pages
+  pub are : ArePagesAfter (g.state now.store).format.unique start (take part now.history) pages
 
 -- the history is kept still; and whatever a crash at some moment in between left restarts to a prefix of it,
 -- with all the actions that were durable at the beginning

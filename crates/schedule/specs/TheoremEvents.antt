@@ -111,6 +111,6 @@ IsDurable durable answer = Unit {0}
 pub record EventMeans {S : Type 0} (g : Ghosts S) (start : Entry → Bool) (kind : Kind) (answer : Answer) (old new : Moment S) : Type 0 where
   pub means : Means g kind answer old new
   pub sets : new.sets ≡ old.sets
-  -- the limits stay: an index that is unique stays so
-  pub limits : (g.state new.store).limits ≡ (g.state old.store).limits
+  -- the format stays: an index that is unique stays so
+  pub format : (g.state new.store).format ≡ (g.state old.store).format
   pub explains : Explains g start new

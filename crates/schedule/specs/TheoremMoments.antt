@@ -56,8 +56,8 @@ pub record Explains {S : Type 0} (g : Ghosts S) (start : Entry → Bool) (now : 
   -- the pages are a B-link tree
   pub tree : IsTree (g.state now.store).pages
   -- on a unique index the pages are keyed, and no two entries that were there at one moment share a key
-  pub keyed : (g.state now.store).limits.unique ≡ true → AreKeyed (g.state now.store).pages
-  pub unique : (g.state now.store).limits.unique ≡ true → (k : ℕ) → KeysDiffer (is_there_after start now.history k)
+  pub keyed : (g.state now.store).format.unique ≡ true → AreKeyed (g.state now.store).pages
+  pub unique : (g.state now.store).format.unique ≡ true → (k : ℕ) → KeysDiffer (is_there_after start now.history k)
   -- the calls without an end are those that the sessions run, one each
   pub running : (session : ℕ) → RunsOne now.slots session → HasOneCall now.calls session
   pub run : (session number : ℕ) (call : Call) → IsRunningCall now.calls session number call → RunsOne now.slots session

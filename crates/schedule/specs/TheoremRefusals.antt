@@ -33,7 +33,7 @@ pub record IsHeldByAnother (table : Table) (session : ℕ) (ask : Ask) (block : 
 -- no block is unused; to each deleted page a running call may still come, which began before the page was
 -- deleted
 pub record HasNoBlock (st : State) : Type 0 where
-  pub used : st.limits.pages ≤ length st.pages
+  pub used : st.format.pages ≤ length st.pages
   pub kept : (block : ℕ) → (nodes_of st.pages block).state ≡ Deleted
       → (session start : ℕ) × (slice_get st.running session ≡ Some (Some start)) × (start < slice_index st.counted block)
 
@@ -57,7 +57,7 @@ MoveFails g Steps session ask op old new Stopped =
 MoveFails g Steps session ask op old new (Blocked block) = IsHeldByAnother (g.state old.store).table session ask block
 MoveFails g Steps session (AskInsert e) op old new Exists = entry_on_live_leaf (g.state old.store).pages e ≡ true
 MoveFails g Steps session (AskInsert e) op old new (KeyExists r) =
-    ((g.state old.store).limits.unique ≡ true) × (r ≢ e.row) × (entry_on_live_leaf (g.state old.store).pages (record { key = e.key; row = r }) ≡ true)
+    ((g.state old.store).format.unique ≡ true) × (r ≢ e.row) × (entry_on_live_leaf (g.state old.store).pages (record { key = e.key; row = r }) ≡ true)
 MoveFails g Steps session (AskInsert e) op old new IndexFull = HasNoBlock (g.state old.store)
 MoveFails g Steps session (AskInsert e) op old new TooTall = 31 ≤ (nodes_of (g.state old.store).pages 0).level
 MoveFails g Steps session (AskScan range) op old new LogFull = ⊥

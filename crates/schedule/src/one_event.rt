@@ -168,7 +168,7 @@ pub fn checkpoint<S: PageStore>(store: &mut S) -> Answer
     ensures answers { AnswersUpkeep Checkpoints result }
     ensures kept { StoreIsKept S.PageStore Checkpoints result store.old store.new }
     ensures room { (count : ℕ) → result ≡ Answer.Checkpointed count
-        → LogIsClosed (S.state store.old).limits (S.backing store.new) }
+        → LogIsClosed (S.state store.old).format (S.backing store.new) }
     ensures alive { (count : ℕ) → result ≡ Answer.Checkpointed count
         → (S.backing store.new).stopped ≡ false }
 {

@@ -86,9 +86,9 @@ requested_pages : (v : Bool) (st : State) (session : ℕ) → (after_request v s
 requested_pages false st session = refl
 requested_pages true st session = refl
 
-requested_limits : (v : Bool) (st : State) (session : ℕ) → (after_request v session st).limits ≡ st.limits
-requested_limits false st session = refl
-requested_limits true st session = refl
+requested_format : (v : Bool) (st : State) (session : ℕ) → (after_request v session st).format ≡ st.format
+requested_format false st session = refl
+requested_format true st session = refl
 
 requested_cycle : (v : Bool) (st : State) (session : ℕ) → v ≡ false → (after_request v session st).cycle ≡ st.cycle
 requested_cycle false st session none = refl
@@ -160,7 +160,7 @@ module _ (old : State) (sets : DeadSets) (start : Entry → Bool) (history : Lis
       ascending = tt;
       matched = λ e h. absurd cc;
       was_there = λ e h. absurd cc;
-      complete = λ e behind match through. absurd (not_before range e match behind);
+      complete = λ e is_after match through. absurd (not_before range e match is_after);
       reached = λ e h. absurd cc;
       next_page = λ e not. tt;
     };
@@ -229,18 +229,18 @@ due_from old session (ToScan range) whole servable = record { steps_are = refl; 
 due_from old session (ToBulk set) whole servable = absurd servable
 due_from old session ToCleanup whole servable = absurd servable
 
-few_begun : (v : Bool) (old : State) (session : ℕ) (request : Request) → old.limits.pages ≤ 65536 → length old.pages ≤ 65536
+few_begun : (v : Bool) (old : State) (session : ℕ) (request : Request) → old.format.pages ≤ 65536 → length old.pages ≤ 65536
     → work_in (after_request v session old) (Some (op_before session request)) < 281474976710656
-few_begun false old session request low few = few_from old.limits.pages old.pages session request low few
-few_begun true old session request low few = few_from old.limits.pages old.pages session request low few
+few_begun false old session request low few = few_from old.format.pages old.pages session request low few
+few_begun true old session request low few = few_from old.format.pages old.pages session request low few
 
 pub has_steps : (old new : State) (session : ℕ) (request : Request) (slot : Option Op) → new ≡ after_request (asks_bulk_delete request) session old → slot ≡ Some (op_before session request)
-    → old.limits.pages ≤ 65536 → length old.pages ≤ 65536 → HasSteps old new request slot
+    → old.format.pages ≤ 65536 → length old.pages ≤ 65536 → HasSteps old new request slot
 has_steps old new session request slot is slot_is low few =
     subst (λ (st : State). HasSteps old st request slot) (sym is) (subst (λ (x : Option Op). HasSteps old (after_request (asks_bulk_delete request) session old) request x) (sym slot_is)
     (record {
       due = λ whole servable.
           due_still old (after_request (asks_bulk_delete request) session old) (Some (op_before session request)) (root_level old.pages + steps_for request)
-          (requested_limits (asks_bulk_delete request) old session) (requested_pages (asks_bulk_delete request) old session) (due_from old session request whole servable);
+          (requested_format (asks_bulk_delete request) old session) (requested_pages (asks_bulk_delete request) old session) (due_from old session request whole servable);
       bounded = few_begun (asks_bulk_delete request) old session request low few;
     }))

@@ -31,5 +31,5 @@ cleanup_few most used cursor low few =
 pub calls_bounded : CallsAreBounded
 calls_bounded st (Insert op) order few fits = insert_bounded st op order few fits
 calls_bounded st (Scan op) order few fits = scan_bounded st op order few fits
-calls_bounded st (Bulk set op) order few fits = (let used = pages_few st order.tree in bulk_few st.limits.pages (length st.pages) op.cursor op.backtrack few (omega arith))
+calls_bounded st (Bulk set op) order few fits = (let used = pages_few st order.tree in bulk_few st.format.pages (length st.pages) op.cursor op.backtrack few (omega arith))
 calls_bounded st (Cleanup op) order few fits = cleanups_bounded st op order fits few

@@ -25,9 +25,9 @@ cover_still old new level aim block same c =
     let at_new : HasCover (paged old new.pages) level aim block = subst (λ (ps : List Page). HasCover (paged old ps) level aim block) (sym same) at_old in
     record { tree = at_new.tree; in_tree = at_new.in_tree; covers = at_new.covers }
 
-room_still : (old new : State) (e : Entry) → new.limits ≡ old.limits → new.pages ≡ old.pages → HasRoomFor old e → HasRoomFor new e
-room_still old new e limits same room page found cover =
-    subst (λ (l : Format). length (entries_of page.items) < l.items) (sym limits)
+room_still : (old new : State) (e : Entry) → new.format ≡ old.format → new.pages ≡ old.pages → HasRoomFor old e → HasRoomFor new e
+room_still old new e format same room page found cover =
+    subst (λ (l : Format). length (entries_of page.items) < l.items) (sym format)
     (room page (sym (ap (λ (ps : List Page). slice_get ps page.block) same) ∙ found) (cover_still new old 0 (entry_aim e) page.block (sym same) cover))
 
 insert_way_still : (old new : State) (e : Entry) (at : InsertAt) → new.pages ≡ old.pages → IsOnEntryWay old e at → IsOnEntryWay new e at
@@ -42,24 +42,24 @@ scan_way_still old new frontier (ScanReads position) same h = cover_still old ne
 scan_way_still old new frontier Last same h = absurd h
 
 -- a key that isn't there is so still
-key_still : (old new : State) (e : Entry) → new.limits ≡ old.limits → new.pages ≡ old.pages → IsKeyAbsent old e → IsKeyAbsent new e
-key_still old new e limits same absent =
-    λ unique r. ap (λ (ps : List Page). entry_on_live_leaf ps (with_row e r)) same ∙ absent (ap (λ (f : Format). f.unique) (sym limits) ∙ unique) r
+key_still : (old new : State) (e : Entry) → new.format ≡ old.format → new.pages ≡ old.pages → IsKeyAbsent old e → IsKeyAbsent new e
+key_still old new e format same absent =
+    λ unique r. ap (λ (ps : List Page). entry_on_live_leaf ps (with_row e r)) same ∙ absent (ap (λ (f : Format). f.unique) (sym format) ∙ unique) r
 
 -- a call that is due stays so while pages and limits are as they were
-pub due_still : (old new : State) (slot : Option Op) (steps : ℕ) → new.limits ≡ old.limits → new.pages ≡ old.pages → IsDueIn old slot steps → IsDueIn new slot steps
-due_still old new None steps limits same due = absurd due
-due_still old new (Some (Bulk set op)) steps limits same due = absurd due
-due_still old new (Some (Cleanup op)) steps limits same due = absurd due
-due_still old new (Some (Insert op)) steps limits same due = record {
+pub due_still : (old new : State) (slot : Option Op) (steps : ℕ) → new.format ≡ old.format → new.pages ≡ old.pages → IsDueIn old slot steps → IsDueIn new slot steps
+due_still old new None steps format same due = absurd due
+due_still old new (Some (Bulk set op)) steps format same due = absurd due
+due_still old new (Some (Cleanup op)) steps format same due = absurd due
+due_still old new (Some (Insert op)) steps format same due = record {
   steps_are = due.steps_are ∙ sym (ap (λ (ps : List Page). insert_steps ps op.at) same);
   whole = subst NoneIsIncomplete (sym same) due.whole;
   position = insert_way_still old new op.entry op.at same due.position;
   absent = ap (λ (ps : List Page). entry_on_live_leaf ps op.entry) same ∙ due.absent;
-  key_absent = key_still old new op.entry limits same due.key_absent;
-  room = room_still old new op.entry limits same due.room;
+  key_absent = key_still old new op.entry format same due.key_absent;
+  room = room_still old new op.entry format same due.room;
 }
-due_still old new (Some (Scan op)) steps limits same due = record {
+due_still old new (Some (Scan op)) steps format same due = record {
   steps_are = due.steps_are ∙ sym (ap (λ (ps : List Page). scan_steps ps op.at) same);
   whole = subst NoneIsIncomplete (sym same) due.whole;
   position = scan_way_still old new op.frontier op.at same due.position;
@@ -108,14 +108,14 @@ insert_counts old new before after left due same step position fewer =
       subst (λ (n : ℕ). 0 < n) (sym left_is) (some_steps new after.entry after.at position),
       record {
         pages = pages;
-        limits = step.does.limits;
+        format = step.does.format;
         due = record {
           steps_are = left_is;
           whole = subst NoneIsIncomplete (sym pages) due.whole;
           position = position;
           absent = ap (λ (ps : List Page). entry_on_live_leaf ps after.entry) pages ∙ ap (entry_on_live_leaf old.pages) same ∙ due.absent;
-          key_absent = key_still old new after.entry step.does.limits pages (subst (IsKeyAbsent old) (sym same) due.key_absent);
-          room = room_still old new after.entry step.does.limits pages (subst (λ (e : Entry). HasRoomFor old e) (sym same) due.room);
+          key_absent = key_still old new after.entry step.does.format pages (subst (IsKeyAbsent old) (sym same) due.key_absent);
+          room = room_still old new after.entry step.does.format pages (subst (λ (e : Entry). HasRoomFor old e) (sym same) due.room);
         };
       },
     )
@@ -139,7 +139,7 @@ scan_counts old new before after left due step position fewer =
       none = ap (λ (op : ScanOp). waiting op) step.op ∙ step.none;
     } in (
       subst (λ (n : ℕ). 0 < n) (sym left_is) (some_reads old after.frontier after.at position),
-      record { pages = pages; limits = step.does.limits; due = due_still old new (Some (Scan after)) left step.does.limits pages then_due },
+      record { pages = pages; format = step.does.format; due = due_still old new (Some (Scan after)) left step.does.format pages then_due },
     )
 
 -- what has an incomplete split is of the pages alone

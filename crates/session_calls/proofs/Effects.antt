@@ -40,7 +40,7 @@ works_on session ask effect old new other does = record {
   leaves = λ same. does.leaves;
   pinned = λ o block page differ at pin. leaf_on effect old new does.leaves block page at;
   cycle = does.leaves.cycle;
-  limits = does.limits;
+  format = does.format;
   frames = does.frames;
   begun = does.begun;
   running = does.running;
@@ -56,7 +56,7 @@ works_cleaning session effect old new does pinned = record {
   leaves = λ other. absurd (true_false other);
   pinned = pinned;
   cycle = does.cycle;
-  limits = does.limits;
+  format = does.format;
   frames = does.frames;
   begun = does.begun;
   running = does.running;
@@ -74,7 +74,7 @@ works_nothing session ask old new same order =
       leaves = λ other. does.leaves;
       pinned = λ o block page differ at pin. leaf_on None old new does.leaves block page at;
       cycle = does.leaves.cycle;
-      limits = does.limits;
+      format = does.format;
       frames = does.frames;
       begun = does.begun;
       running = does.running;
@@ -269,9 +269,9 @@ pub go_idle : (v : Bool) (session : ℕ) (st : State) → session < 64 → IsInO
 go_idle false session st low order = ended_idle session st low order
 go_idle true session st low order = (let k = ended_idle session st low order in record { holds = k.holds; number = k.number })
 
-pub go_limits : (v : Bool) (session : ℕ) (st : State) → (let_go v session st).limits ≡ st.limits
-go_limits false session st = refl
-go_limits true session st = refl
+pub go_format : (v : Bool) (session : ℕ) (st : State) → (let_go v session st).format ≡ st.format
+go_format false session st = refl
+go_format true session st = refl
 
 pub go_frames : (v : Bool) (session : ℕ) (st : State) → (let_go v session st).frames ≡ st.frames
 go_frames false session st = refl

@@ -6,7 +6,7 @@ use Rattle.session_calls.proofs.Imports.{is_bulk_delete, asked_of, add_of, OpInv
 use Rattle.session_calls.proofs.Imports.{add_after, noted, ended, AnswerMeans, let_go, op_after_call, cycle_after, CallEffect, SessionEvent, OpEvent, HoldsOn, OpDeletions, Answer, Going, Added}
 use Rattle.session_calls.proofs.Imports.{Ready, Ended, Refused, Op, Insert, Scan, Bulk, Cleanup, nothing_wrong}
 use Rattle.session_calls.proofs.Meanings.{told_same}
-use Rattle.session_calls.proofs.Effects.{works_nothing, matches_after, started_after, pages_stay, go_shape, go_pinned, go_matches, go_others, go_idle, go_limits, go_frames, go_pages, go_leaves, go_cycle, cycle_stays}
+use Rattle.session_calls.proofs.Effects.{works_nothing, matches_after, started_after, pages_stay, go_shape, go_pinned, go_matches, go_others, go_idle, go_format, go_frames, go_pages, go_leaves, go_cycle, cycle_stays}
 use Rattle.session_calls.proofs.Meeting.{grown, began_before, meets_noted, meets_failed, meets_given_up, meets_ended_added, there_at_present, other_row_is}
 
 -- a scan was asked for no insert
@@ -37,7 +37,7 @@ module _ {sets : DeadSets} (at : Circumstances) (old mid new : State) (start : E
     caused = goes.caused;
     world = go_matches ends_cycle mid call.session start (history ++ acts_of number goes.effect) low mid_matches;
     shape = go_shape ends_cycle call.ask old mid call.session goes.effect goes.works.shape;
-    limits = go_limits ends_cycle call.session mid ∙ goes.works.limits;
+    format = go_format ends_cycle call.session mid ∙ goes.works.format;
     frames = go_frames ends_cycle call.session mid ∙ goes.works.frames;
     pages = λ none. go_pages ends_cycle call.session mid ∙ mid_pages none;
     others = go_others ends_cycle old mid call.session goes.works.others;
@@ -56,7 +56,7 @@ module _ {sets : DeadSets} (at : Circumstances) (old mid new : State) (start : E
     caused = goes.caused;
     world = mid_matches;
     shape = goes.works.shape;
-    limits = goes.works.limits;
+    format = goes.works.format;
     frames = goes.works.frames;
     pages = mid_pages;
     others = goes.works.others;
@@ -102,7 +102,7 @@ event_of_end {sets} old new start history number call op fits is =
       caused = tt;
       shape = go_shape (is_bulk_delete op) call.ask old old call.session None none.shape;
       world = subst (λ (l : List Action). Matches (let_go (is_bulk_delete op) call.session old) start l) (sym (append-nil history)) (go_matches (is_bulk_delete op) old call.session start history low fits.world);
-      limits = go_limits (is_bulk_delete op) call.session old;
+      format = go_format (is_bulk_delete op) call.session old;
       frames = go_frames (is_bulk_delete op) call.session old;
       pages = λ quiet. go_pages (is_bulk_delete op) call.session old;
       others = go_others (is_bulk_delete op) old old call.session none.others;
@@ -128,7 +128,7 @@ event_of_nothing {sets} at old new start history number call after op answer m s
   caused = caused;
   shape = (works_nothing call.session call.ask old new same m.order).shape;
   world = matches_after call.session call.ask None old new start history number m (works_nothing call.session call.ask old new same m.order);
-  limits = ap (λ (st : State). st.limits) same;
+  format = ap (λ (st : State). st.format) same;
   frames = ap (λ (st : State). st.frames) same;
   pages = λ none. ap (λ (st : State). st.pages) same;
   others = (nothing_else call.session old new same m.order).others;

@@ -24,7 +24,7 @@ insert_hindered old new first second before after left fault order fits due stay
     still = subst (λ (st : State). InsertIsDue st after (suc left)) (sym stays.state) (subst (λ (op : InsertOp). InsertIsDue old op (suc left)) (sym stays.op) due)
 
     by : (f : Fault) → HasCause (causes_of_inserting old first second before.session before.entry before.at) f → IsHindered old new (slot_after (Refused f) (Insert after)) (suc left) f
-    by (Blocked b) h = record { pages = ap (λ (st : State). st.pages) stays.state; limits = ap (λ (st : State). st.limits) stays.state; due = still }
+    by (Blocked b) h = record { pages = ap (λ (st : State). st.pages) stays.state; format = ap (λ (st : State). st.format) stays.state; due = still }
     by Io h = tt
     by Stopped h = tt
     by LogFull h = tt

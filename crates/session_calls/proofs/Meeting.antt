@@ -99,9 +99,9 @@ module _ (start : Entry → Bool) (history : List Action) (number : ℕ) (call :
 
 -- if another row of a key is there, the index is unique, the row is another, and its entry is there
 pub other_row_is : (st : State) (e : Entry) (r : Row) → other_row_is_there st e r ≡ true
-    → (st.limits.unique ≡ true) × (r ≢ e.row) × (entry_on_live_leaf st.pages (with_row e r) ≡ true)
+    → (st.format.unique ≡ true) × (r ≢ e.row) × (entry_on_live_leaf st.pages (with_row e r) ≡ true)
 other_row_is st e r h =
-    let both = and_parts st.limits.unique (not (same_entry (with_row e r) e) && entry_on_live_leaf st.pages (with_row e r)) h in
+    let both = and_parts st.format.unique (not (same_entry (with_row e r) e) && entry_on_live_leaf st.pages (with_row e r)) h in
     let parts = and_parts (not (same_entry (with_row e r) e)) (entry_on_live_leaf st.pages (with_row e r)) both.1 in
     (both.0, (λ same. itself same parts.0), parts.1)
   where
@@ -118,7 +118,7 @@ apart_rows e r differ = elim (cases_Bool (same_entry (with_row e r) e)) [
 ]
 
 -- ... and the other way round
-pub other_row_so : (st : State) (e : Entry) (r : Row) → st.limits.unique ≡ true → r ≢ e.row → entry_on_live_leaf st.pages (with_row e r) ≡ true → other_row_is_there st e r ≡ true
+pub other_row_so : (st : State) (e : Entry) (r : Row) → st.format.unique ≡ true → r ≢ e.row → entry_on_live_leaf st.pages (with_row e r) ≡ true → other_row_is_there st e r ≡ true
 other_row_so st e r unique differ there = rw unique (rw (apart_rows e r differ) there)
 
 -- an entry that the pages hold now was there at some moment

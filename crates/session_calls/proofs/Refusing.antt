@@ -32,7 +32,7 @@ no_more false before after old new same op = rw (same, op) (omega arith)
 pub refused_steps : {S : Type 0} (g : Ghosts S) (before after : Op) (old new : S) (fault : Fault) → Continues g.follows old new → IsOneActAtMost (g.state old) (g.state new)
     → g.state new ≡ g.state old → after ≡ before → ((g.backing old).stopped ≡ true → StoppedAnswersFirst (add_of before) (Refused fault))
     → WaitsToGive (g.backing old).stopped (g.state old) (g.state new) (Some before) (Some after) (Refused fault)
-    → HasCause (causes_of_stepped_any (g.state old).limits.unique before) fault → AnswersLogged (add_of before) (Refused fault) → OpSteps g before after old new (Refused fault)
+    → HasCause (causes_of_stepped_any (g.state old).format.unique before) fault → AnswersLogged (add_of before) (Refused fault) → OpSteps g before after old new (Refused fault)
 refused_steps g before after old new fault steps kept same op stopped waits cause logged = record {
   steps = steps;
   session = ap session_of op;

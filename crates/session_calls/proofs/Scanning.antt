@@ -67,7 +67,7 @@ module _ (st : State) (start : Entry → Bool) (history : List Action) (began : 
   -- what lies beyond the frontier lies beyond the last that was given
   beyond_last : (e : Entry) → is_past before.frontier e ≡ true → IsPast (last_or None given) e
   beyond_last e past = subst (λ (xs : List Entry). IsPast (last_or None xs) e) was_given
-      (far.next_page e (λ behind. true_false (sym past ∙ subst (λ (a : ScanAt). IsAfter before.frontier a e) from behind)))
+      (far.next_page e (λ is_after. true_false (sym past ∙ subst (λ (a : ScanAt). IsAfter before.frontier a e) from is_after)))
 
   fresh_ascend : AscendsPast (last_or None given) (waiting after)
   fresh_ascend = AscendsPast-from (Some before.frontier) (last_or None given) (waiting after) read.ascends
@@ -99,7 +99,7 @@ module _ (st : State) (start : Entry → Bool) (history : List Action) (began : 
         let match_before : matches before.range e ≡ true = subst (λ (r : Range). matches r e ≡ true) range match in
         let now : entry_on_live_leaf st.pages e ≡ true = m.contents e ∙ sym (there_now start history e) ∙ through (length history) le (omega arith) in
         is_among-append given (waiting after) e ∙ elim (read.complete e within match_before now) [
-          | inl behind ↦ or_left (is_among given e) (is_among (waiting after) e) (subst (λ (xs : List Entry). is_among xs e ≡ true) was_given (far.complete e behind match_before through))
+          | inl is_after ↦ or_left (is_among given e) (is_among (waiting after) e) (subst (λ (xs : List Entry). is_among xs e ≡ true) was_given (far.complete e is_after match_before through))
           | inr fresh ↦ or_right (is_among given e) (is_among (waiting after) e) fresh
         ];
     reached = all_reached;
@@ -139,8 +139,8 @@ module _ (start : Entry → Bool) (history : List Action) (began : ℕ) (given r
     };
     all = λ x within match through.
         let up : is_past (bound_of e) x ≡ false = up_to_last x within in
-        let behind : IsAfter op.frontier op.at x = after_falls op.frontier op.at x e up (far.reached e (given_among e e_among)) in
-        let among : is_among ((given ++ e ∷ []) ++ rest) x ≡ true = subst (λ (xs : List Entry). is_among xs x ≡ true) (sym joined) (far.complete x behind match through) in
+        let is_after : IsAfter op.frontier op.at x = after_falls op.frontier op.at x e up (far.reached e (given_among e e_among)) in
+        let among : is_among ((given ++ e ∷ []) ++ rest) x ≡ true = subst (λ (xs : List Entry). is_among xs x ≡ true) (sym joined) (far.complete x is_after match through) in
         elim (or_cases (is_among (given ++ e ∷ []) x) (is_among rest x) (sym (is_among-append (given ++ e ∷ []) rest x) ∙ among)) [
           | inl a ↦ a
           | inr b ↦ absurd (true_false (sym (rest_beyond x b) ∙ up))
@@ -210,9 +210,9 @@ goes_to start history began given op position under far = record {
   ascending = far.ascending;
   matched = far.matched;
   was_there = far.was_there;
-  complete = λ e behind. far.complete e (on_after op.frontier op.at e under behind);
+  complete = λ e is_after. far.complete e (on_after op.frontier op.at e under is_after);
   reached = λ e h. after_on op.frontier op.at e under (far.reached e h);
-  next_page = λ e not. far.next_page e (λ behind. not (after_on op.frontier op.at e under behind));
+  next_page = λ e not. far.next_page e (λ is_after. not (after_on op.frontier op.at e under is_after));
 }
 
 -- the steps of a scan

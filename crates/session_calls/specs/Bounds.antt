@@ -9,5 +9,5 @@ use Rattle.session_calls.specs.declared.op.Op.{Op}
 -- fewer than 2^42 steps, and entries to give, are left while the pages stay as they are
 abbrev pub CallsAreBounded : Type 0
 CallsAreBounded =
-    (st : State) (op : Op) → IsInOrder st → st.limits.pages ≤ 65536 → OpInvariant st op
+    (st : State) (op : Op) → IsInOrder st → st.format.pages ≤ 65536 → OpInvariant st op
     → work_in st (Some op) < 4398046511104

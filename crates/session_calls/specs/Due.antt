@@ -25,7 +25,7 @@ use Rattle.session_calls.specs.Sessions.{work_in}
 -- on a unique index: no entry of this one's key is there
 abbrev pub IsKeyAbsent : State → Entry → Type 0
 IsKeyAbsent st e =
-    st.limits.unique ≡ true → (r : Row) → entry_on_live_leaf st.pages (with_row e r) ≡ false
+    st.format.unique ≡ true → (r : Row) → entry_on_live_leaf st.pages (with_row e r) ≡ false
 
 -- after `steps` steps the entry is added: no page has an incomplete split; neither the entry nor, on a unique
 -- index, its key is there; its leaf has room; the insert is on its way
@@ -54,10 +54,10 @@ IsDueIn st (Some (Scan op)) steps = ScanIsDue st op steps
 IsDueIn st (Some (Bulk set op)) steps = ⊥
 IsDueIn st (Some (Cleanup op)) steps = ⊥
 
--- a step has left the pages and the limits as they were, and the call is due after `steps` more
+-- a step has left the pages and the format as they were, and the call is due after `steps` more
 pub record StaysDue (old new : State) (slot : Option Op) (steps : ℕ) : Type 0 where
   pub pages : new.pages ≡ old.pages
-  pub limits : new.limits ≡ old.limits
+  pub format : new.format ≡ old.format
   pub due : IsDueIn new slot steps
 
 -- the answer is what the call was to come to: of an insert, its entry is added and nothing is left

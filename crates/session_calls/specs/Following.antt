@@ -16,7 +16,7 @@ use Rattle.session_calls.specs.declared.op.Op.{Op}
 -- what the answer of a step says, whatever the pages are
 pub record StepAnswerMeans (is_stopped : Bool) (old new : State) (before after : Option Op) (answer : Answer) : Type 0 where
   -- which faults it may tell of
-  pub faults : IsCaused (causes_of_slot_stepped_any old.limits.unique before) answer
+  pub faults : IsCaused (causes_of_slot_stepped_any old.format.unique before) answer
   -- once the entry of an insert is logged only a page that is blocked refuses it, and it ends with the number
   -- of that action
   pub logged : AnswersLogged (slot_add before) answer

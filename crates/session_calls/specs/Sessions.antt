@@ -165,7 +165,7 @@ work_left most pages (Some op) = op_work most pages op
 
 -- ... on the pages of this state, within its limits
 abbrev pub work_in : State → Option Op → ℕ
-work_in st slot = work_left st.limits.pages st.pages slot
+work_in st slot = work_left st.format.pages st.pages slot
 
 -- no entry is ready
 abbrev pub NothingIsReady : Option Op → Type 0
@@ -288,7 +288,7 @@ IncompleteChangesNothing old new before answer = Unit {0}
 pub record KeepsPages (old new : State) : Type 0 where
   pub acts : (new.acts ≡ old.acts) ⊎ (new.acts ≡ suc old.acts)
   pub quiet : new.acts ≡ old.acts → new.pages ≡ old.pages
-  pub limits : new.limits ≡ old.limits
+  pub format : new.format ≡ old.format
   pub frames : new.frames ≡ old.frames
   pub begun : new.begun ≡ old.begun
 
@@ -343,7 +343,7 @@ pub record CallEffect (session : ℕ) (ask : Ask) (effect : Option Effect) (old 
   pub leaves : asks_cleanup ask ≡ false → LeafPagesStay effect old new
   pub pinned : PinnedLeafPagesStay session old new
   pub cycle : new.cycle ≡ old.cycle
-  pub limits : new.limits ≡ old.limits
+  pub format : new.format ≡ old.format
   pub frames : new.frames ≡ old.frames
   pub begun : new.begun ≡ old.begun
   pub running : new.running ≡ old.running
@@ -365,7 +365,7 @@ pub record SessionEvent (at : Circumstances) (old new : State) (sets : DeadSets)
   pub caused : IsCaused at answer
   pub world : Matches new start (history ++ acts_of number effect)
   pub shape : MovesShape call.ask effect old new
-  pub limits : new.limits ≡ old.limits
+  pub format : new.format ≡ old.format
   pub frames : new.frames ≡ old.frames
   pub pages : effect ≡ None → new.pages ≡ old.pages
   pub others : OthersRely call.session old new
@@ -556,7 +556,7 @@ pub record OpSteps {S : Type 0} (g : Ghosts S) (before after : Op) (old new : S)
   pub refused : (fault : Fault) → answer ≡ Refused fault → (g.state new ≡ g.state old) × (after ≡ before)
   pub stopped : (g.backing old).stopped ≡ true → StoppedAnswersFirst (add_of before) answer
   pub unfinished : (action : ℕ) (fault : Fault) → answer ≡ Added action (Some fault) → g.state new ≡ g.state old
-  pub faults : IsCaused (causes_of_stepped_any (g.state old).limits.unique before) answer
+  pub faults : IsCaused (causes_of_stepped_any (g.state old).format.unique before) answer
   pub logged : AnswersLogged (add_of before) answer
   pub stats : CountsStats (g.state old) (Some before) answer
   pub waits : WaitsToGive (g.backing old).stopped (g.state old) (g.state new) (Some before) (Some after) answer

@@ -145,7 +145,7 @@ fn start<S: PageStore>(
     ensures done { OnOk result (S.state store.new
         ≡ after_request is_bulk session (S.state store.old)) }
     ensures low { session < 64 }
-    ensures limits { (S.state store.old).limits.pages ≤ 65536 }
+    ensures format { (S.state store.old).format.pages ≤ 65536 }
     ensures few { length (S.state store.old).pages ≤ 65536 }
     ensures stopped { no_call_begins (S.state store.old) (S.backing store.old) ≡ true
         → result ≡ Err Fault.Stopped }

@@ -33,7 +33,7 @@ keeps_as g contents old calls A B now start pending records f k = record {
   once = k.once;
   runs = k.runs;
   since = k.since;
-  behind = k.behind;
+  follows = k.follows;
   in_time = k.in_time;
 }
 

@@ -6,14 +6,14 @@ ghost use Rattle.worker_seats.specs.Queue.{queue_view};
 
 use crate::gate::Gate;
 use crate::signals::Signals;
-use crate::slot::Slot;
+use crate::slot::RunSlot;
 use crate::started::Started;
 use crate::ticket::{JobList, JobTicket};
 use index_model::DeadRows;
 use page_action::PageStore;
 use shared_world::JobsOn;
 use std::sync::{Mutex, Wait};
-use worker_seats::{JobQueue, Parts, QueuePass};
+use worker_seats::{JobQueue, QueueParts, QueuePass};
 
 /// What the workers of a run share: the queue of its jobs, what lies under the lock, what lies beside it, and
 /// who is told of each job. The types tell of the same jobs and queue. Only who knows that all workers have
@@ -30,7 +30,7 @@ pub struct RunContext<
 > {
     pub rt: &'a R,
     queue: &'a JobQueue<JobTicket<K>>,
-    pub slot: &'a Mutex<Slot<S, T, J>>,
+    pub slot: &'a Mutex<RunSlot<S, T, J>>,
     pub signals: &'a Signals,
     pub gate: &'a G,
     pub ghost list: { J.jobs ≡ K.list },
@@ -50,7 +50,7 @@ impl<'a, S: PageStore, T: DeadRows + Drop, J: JobsOn<S>, K: JobList, G: Gate, R:
     pub fn new(
         rt: &'a R,
         queue: &'a JobQueue<JobTicket<K>>,
-        slot: &'a Mutex<Slot<S, T, J>>,
+        slot: &'a Mutex<RunSlot<S, T, J>>,
         signals: &'a Signals,
         gate: &'a G,
     ) -> RunContext<'a, S, T, J, K, G, R>
@@ -83,6 +83,6 @@ impl<'a, S: PageStore, T: DeadRows + Drop, J: JobsOn<S>, K: JobList, G: Gate, R:
             (view pass.old).pushed (view pass.old).popped }
         ensures part { view result ≡ queue_view 1 (view pass.old).pushed [] }
     {
-        self.queue.another::<Parts>(pass)
+        self.queue.another::<QueueParts>(pass)
     }
 }

@@ -9,10 +9,10 @@ ghost use Rattle.shared_world.specs.Standing.{AreIdle, Stands};
 
 use crate::context::RunContext;
 use crate::gate::Gate;
-use crate::run_room::Room;
+use crate::run_room::RunRoom;
 use crate::run_threads::run_threads;
 use crate::signals::Signals;
-use crate::slot::Slot;
+use crate::slot::RunSlot;
 use crate::ticket::{JobList, JobTicket};
 use crate::worker_thread::Number;
 use index_model::DeadRows;
@@ -39,7 +39,7 @@ pub fn run_all<
     queue: &'x JobQueue<JobTicket<K>>,
     gate: &'x G,
     world: World<S, T>,
-    room: Room<J, K, G::Hand>,
+    room: RunRoom<J, K, G::Hand>,
     handles: Vec<PromisedHandle<Worker<J, JobTicket<K>, G::Hand>, Number>>,
     last: u32,
 ) -> Result<(World<S, T>, u64, Vec<Record>, Vec<G::Hand>), World<S, T>>
@@ -58,7 +58,7 @@ pub fn run_all<
         J.jobs J.workers r.0 r.1 r.2.items) }
     ensures told { IfOk result (λ r. HaveTold G.Hand.told J.workers r.3.items r.2.items) }
 {
-    let slot: Mutex<Slot<S, T, J>> = Mutex::new(Slot::Waiting);
+    let slot: Mutex<RunSlot<S, T, J>> = Mutex::new(RunSlot::Waiting);
     let shares = Signals::new();
     let context = RunContext::new(rt, queue, &slot, &shares, gate);
     let run = &context;

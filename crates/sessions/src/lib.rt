@@ -24,6 +24,6 @@ pub use gate::{Gate, NoGate};
 pub use outcome::{Finished, NotRun, Receipt};
 pub use ready::is_ready;
 pub use run::{run_jobs, run_told};
-pub use slot::Slot;
+pub use slot::RunSlot;
 pub use ticket::{JobList, JobTicket, all_tickets};
 pub use worker_seats::{Telling, Told};

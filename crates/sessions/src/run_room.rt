@@ -16,7 +16,7 @@ use worker_seats::{Desk, QueuePass, Seat, Telling, Worker};
 /// What a run is given before it begins: the desks of the seats, the pass of the whole queue, the ledger, and
 /// room for the records, the jobs whose calls run, the workers, their hands and the seats of their sessions.
 #[derive(Drop)]
-pub struct Room<J: Jobs + SessionGroup, K: JobList, H: Telling> {
+pub struct RunRoom<J: Jobs + SessionGroup, K: JobList, H: Telling> {
     pub desk: Desk<J>,
     pub pass: QueuePass<JobTicket<K>>,
     pub book: Book<J>,
@@ -59,7 +59,7 @@ pub fn make_room<J: Jobs + SessionGroup, K: JobList, H: Telling + Drop>(
     ledger: (Book<J>, Share<J>),
     jobs: usize,
     workers: u32,
-) -> Option<Room<J, K, H>>
+) -> Option<RunRoom<J, K, H>>
     requires keeper { known_by desk.keeper ≡ keeper_of [] [] }
     requires sessions { view_of sessions.keeper ≡ keeper_with [] [] }
     requires queue { pass.table_id ≡ J.queue }
@@ -78,7 +78,7 @@ pub fn make_room<J: Jobs + SessionGroup, K: JobList, H: Telling + Drop>(
     let hands = Vec::with_capacity(alloc, workers as usize).ok()?;
     let seats = Vec::with_capacity(alloc, workers as usize).ok()?;
     let session_seats = Vec::with_capacity(alloc, workers as usize).ok()?;
-    Some(Room {
+    Some(RunRoom {
         desk,
         pass,
         book,

@@ -16,8 +16,8 @@ ghost use Rattle.shared_world.specs.declared.record.Pending.{Pending as WaitingJ
 use crate::context::RunContext;
 use crate::gate::Gate;
 use crate::ready::is_open;
-use crate::run_room::Room;
-use crate::slot::Slot;
+use crate::run_room::RunRoom;
+use crate::slot::RunSlot;
 use crate::started::{Started, all_started};
 use crate::ticket::{JobList, JobTicket};
 use crate::worker::work;
@@ -35,7 +35,7 @@ use world::World;
 // Puts a value under the lock, and wakes all.
 fn put<S: PageStore + Drop, T: DeadRows + Drop, J: JobsOn<S>, K: JobList, G: Gate, R: Wait>(
     run: &RunContext<S, T, J, K, G, R>,
-    value: Slot<S, T, J>,
+    value: RunSlot<S, T, J>,
 ) {
     *run.slot.lock(run.rt) = value;
     run.signals.opened.notify_all();
@@ -49,7 +49,7 @@ fn take_out<S: PageStore + Drop, T: DeadRows + Drop, J: JobsOn<S>, K: JobList, G
         .signals
         .opened
         .wait_while(run.rt, run.slot.lock(run.rt), |slot| !is_open(slot));
-    let Slot::Open(shared, _) = mem::replace(&mut *guard, Slot::Closed) else {
+    let RunSlot::Open(shared, _) = mem::replace(&mut *guard, RunSlot::Closed) else {
         unreachable!()
     };
     shared
@@ -207,7 +207,7 @@ pub fn run_threads<
     scope: &'s Scope<'s, E>,
     run: &'s RunContext<'s, S, T, J, K, G, R>,
     world: World<S, T>,
-    room: Room<J, K, G::Hand>,
+    room: RunRoom<J, K, G::Hand>,
     mut handles: Vec<PromisedHandle<Worker<J, JobTicket<K>, G::Hand>, Number>>,
     last: u32,
 ) -> Result<(World<S, T>, u64, Vec<Record>, Vec<G::Hand>), World<S, T>>
@@ -224,7 +224,7 @@ pub fn run_threads<
         J.jobs J.workers r.0 r.1 r.2.items) }
     ensures told { IfOk result (λ r. HaveTold G.Hand.told J.workers r.3.items r.2.items) }
 {
-    let Room {
+    let RunRoom {
         mut desk,
         mut pass,
         book,
@@ -248,7 +248,7 @@ pub fn run_threads<
         last,
     );
     if !started {
-        put(run, Slot::Closed);
+        put(run, RunSlot::Closed);
         return Err(world);
     }
     let share = all.split_off(1, 0);
@@ -256,7 +256,7 @@ pub fn run_threads<
     pending.push_reserved(None);
     let shared = first(world, history, pending, session_seats, book, desk, sessions);
     let threads = all_started::<J, K, G::Hand>(&handles);
-    put(run, Slot::Open(shared, threads.again()));
+    put(run, RunSlot::Open(shared, threads.again()));
     let hand = run.gate.hand(last);
     let (seats, pass, hands) = work_out(
         run, threads, own, pass, hand, handles, returned, seats, hands,

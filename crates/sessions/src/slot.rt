@@ -8,7 +8,7 @@ use shared_world::{JobsOn, Shared};
 /// What the lock holds: nothing until all workers have started, and nothing if one can't be. It is opened
 /// with what tells that they have.
 #[derive(Drop)]
-pub enum Slot<S: PageStore, T: DeadRows + Drop, J: JobsOn<S>> {
+pub enum RunSlot<S: PageStore, T: DeadRows + Drop, J: JobsOn<S>> {
     Waiting,
     Open(Shared<S, T, J>, Started<J>),
     Closed,

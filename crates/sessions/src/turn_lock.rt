@@ -16,7 +16,7 @@ struct Group {
 // Who has the turn lock, and who waits for it. Those of one group get it first, and who comes meanwhile joins
 // the other.
 #[derive(Drop)]
-struct Line {
+struct WaitingLine {
     held: bool,
     odd_is_next: bool,
     even: Group,
@@ -47,7 +47,7 @@ fn give(group: &mut Group) -> bool {
 /// commit needs none.
 #[derive(Drop)]
 pub struct TurnLock {
-    line: Mutex<Line>,
+    line: Mutex<WaitingLine>,
     even: Condvar,
     odd: Condvar,
 }
@@ -56,7 +56,7 @@ impl TurnLock {
     /// Nobody has it.
     pub fn new() -> TurnLock {
         TurnLock {
-            line: Mutex::new(Line {
+            line: Mutex::new(WaitingLine {
                 held: false,
                 odd_is_next: false,
                 even: nobody(),

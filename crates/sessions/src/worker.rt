@@ -10,7 +10,7 @@ ghost use Rattle.shared_world.specs.Turns.{SeatMeans, SitsOn};
 use crate::context::RunContext;
 use crate::gate::Gate;
 use crate::ready::is_ready;
-use crate::slot::Slot;
+use crate::slot::RunSlot;
 use crate::started::Started;
 use crate::ticket::{JobList, JobTicket};
 use crate::turn_lock::WorkerTurn;
@@ -43,7 +43,7 @@ fn begin_in<S: PageStore, T: DeadRows + Drop, J: JobsOn<S>, K: JobList, G: Gate,
         .signals
         .opened
         .wait_while(run.rt, run.slot.lock(run.rt), |slot| !is_ready(slot));
-    let Slot::Open(shared, _) = &mut *guard else {
+    let RunSlot::Open(shared, _) = &mut *guard else {
         unreachable!()
     };
     shared.begin(seat, job, *asked, room)
@@ -63,7 +63,7 @@ fn step_in<S: PageStore, T: DeadRows + Drop, J: JobsOn<S>, K: JobList, G: Gate, 
         .signals
         .opened
         .wait_while(run.rt, run.slot.lock(run.rt), |slot| !is_ready(slot));
-    let Slot::Open(shared, _) = &mut *guard else {
+    let RunSlot::Open(shared, _) = &mut *guard else {
         unreachable!()
     };
     shared.step(seat, job)
@@ -83,7 +83,7 @@ fn next_in<S: PageStore, T: DeadRows + Drop, J: JobsOn<S>, K: JobList, G: Gate, 
         .signals
         .opened
         .wait_while(run.rt, run.slot.lock(run.rt), |slot| !is_ready(slot));
-    let Slot::Open(shared, _) = &mut *guard else {
+    let RunSlot::Open(shared, _) = &mut *guard else {
         unreachable!()
     };
     let (seat, _) = shared.next(seat, job);
@@ -106,7 +106,7 @@ fn end_in<S: PageStore, T: DeadRows + Drop, J: JobsOn<S>, K: JobList, G: Gate, R
         .signals
         .opened
         .wait_while(run.rt, run.slot.lock(run.rt), |slot| !is_ready(slot));
-    let Slot::Open(shared, _) = &mut *guard else {
+    let RunSlot::Open(shared, _) = &mut *guard else {
         unreachable!()
     };
     shared.end(seat, job, *asked)

@@ -5,7 +5,7 @@ ghost use Rattle.shared_index.specs.Sessions.{number_of_seat};
 
 use crate::requests::{Pause, Requests};
 use index_model::{DeadRows, Entry, Fault, Range, VacuumStats};
-use ledger_lines::{Line, Reply, parse, put_entry, put_reply};
+use ledger_lines::{LedgerLine, Reply, parse, put_entry, put_reply};
 use page_action::PageStore;
 use shared_index::{Client, SharedIndex, SharedSession};
 use shared_world::OriginOn;
@@ -95,12 +95,12 @@ impl<'a, R: Wait + Clock, I: BufRead, O: Write> LineServer<'a, R, I, O> {
             None => return Reply::NotALine,
         };
         match line {
-            Line::Insert(entry) => added(session.insert(self.rt, index, entry)),
-            Line::Delete(_) => Reply::Refused(Fault::NoMemory),
-            Line::List(range) => self.list(index, session, number, range),
-            Line::Vacuum => cleaned_up(session.clean_up(self.rt, index)),
-            Line::Checkpoint => checkpointed(session.checkpoint(self.rt, index)),
-            Line::Commit => committed(session.commit(self.rt, index)),
+            LedgerLine::Insert(entry) => added(session.insert(self.rt, index, entry)),
+            LedgerLine::Delete(_) => Reply::Refused(Fault::NoMemory),
+            LedgerLine::List(range) => self.list(index, session, number, range),
+            LedgerLine::Vacuum => cleaned_up(session.clean_up(self.rt, index)),
+            LedgerLine::Checkpoint => checkpointed(session.checkpoint(self.rt, index)),
+            LedgerLine::Commit => committed(session.commit(self.rt, index)),
         }
     }
 

@@ -1,7 +1,7 @@
 //! The lines of the input, which threads draw.
 
 use index_model::Fault;
-use ledger_lines::{Dead, Line, listed, parse};
+use ledger_lines::{Dead, LedgerLine, listed, parse};
 use std::alloc::Global;
 use std::io::{self, BufRead};
 use std::mem;
@@ -77,7 +77,7 @@ impl<I: BufRead> Requests<I> {
 // The rows that a line deletes. None if it is another, or if there is no memory for them.
 fn deleted(alloc: Global, text: &[u8]) -> Option<Dead> {
     match parse(text) {
-        Some(Ok(Line::Delete(rows))) => listed(alloc, rows).ok(),
+        Some(Ok(LedgerLine::Delete(rows))) => listed(alloc, rows).ok(),
         _ => None,
     }
 }

@@ -9,7 +9,7 @@ use Rattle.split_finish.proofs.Imports.{FinishInvariant, IsReadyToGrow, Popped, 
 module _ (st : State) (op : FinishOp) (honest : Bool) (meta page : Page) (new fresh : ℕ) (pages : List Page) (order : IsInOrder st) (fits : FinishInvariant st op) (sound : honest ≡ true)
     (read_meta : IsReadToChange st honest op.session 0 meta) (read : IsReadToChange st honest op.session op.target.block page) (ready : IsReadyToGrow meta page op op) (right : page.right ≡ Some new)
     (free_block : IsFresh st fresh) (block : IsBlock fresh) (free : is_held_by_another st.table op.session fresh Exclusive ≡ false)
-    (few : length st.pages ≤ st.limits.pages) (items : 2 ≤ st.limits.items) (grown : AreGrown meta page op.target.separator new fresh pages) where
+    (few : length st.pages ≤ st.format.pages) (items : 2 ≤ st.format.items) (grown : AreGrown meta page op.target.separator new fresh pages) where
   has : HasTree st
   has = order.tree
 
@@ -33,21 +33,21 @@ module _ (st : State) (op : FinishOp) (honest : Bool) (meta page : Page) (new fr
       let page_in = slice_get_within st.pages page.block page found in
       let page_at = grown.clear.block_is in
       let root_at = grown.root_block in (
-        writable st.limits grown.root grown.root_layout
+        writable st.format grown.root grown.root_layout
             (grown.root_admitted block blocked (high_bound page op.target.separator read.stored.storable.admitted ready.high_is) (right_block page new read.stored.storable.admitted right))
-            (subst (λ (n : ℕ). n ≤ st.limits.items) (sym grown.root_items) items),
-        (subst (λ (b : ℕ). b ≤ length st.pages) (sym root_at) free_block.within, subst (λ (b : ℕ). b < st.limits.pages) (sym root_at) free_block.inside),
+            (subst (λ (n : ℕ). n ≤ st.format.items) (sym grown.root_items) items),
+        (subst (λ (b : ℕ). b ≤ length st.pages) (sym root_at) free_block.within, subst (λ (b : ℕ). b < st.format.pages) (sym root_at) free_block.inside),
         ((λ same. (let above = block.0 in omega arith)), ((λ same. apart_page (sym page_at ∙ same ∙ root_at)), tt)),
         (
-          writable st.limits grown.meta_after grown.meta_layout
+          writable st.format grown.meta_after grown.meta_layout
               (grown.meta_admitted read_meta.stored.storable.admitted ready.meta_is block)
-              (count_same st.limits.items grown.meta_after.items meta.items grown.meta_items read_meta.stored.storable.few),
+              (count_same st.format.items grown.meta_after.items meta.items grown.meta_items read_meta.stored.storable.few),
           (omega arith, omega arith),
           ((λ same. (let above = blocked.0 in omega arith)), tt),
           (
-            writable st.limits grown.page_after (ap (λ (p : Page). p.layout) grown.clear.only)
+            writable st.format grown.page_after (ap (λ (p : Page). p.layout) grown.clear.only)
                 (grown.page_admitted read.stored.storable.admitted)
-                (count_same st.limits.items grown.page_after.items page.items grown.page_items read.stored.storable.few),
+                (count_same st.format.items grown.page_after.items page.items grown.page_items read.stored.storable.few),
             (omega arith, omega arith),
             tt,
             tt,

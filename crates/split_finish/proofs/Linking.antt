@@ -72,7 +72,7 @@ module _ (st : State) (op : FinishOp) (honest : Bool) (position : Position) (pag
 module _ (st : State) (op : FinishOp) (honest : Bool) (position : Position) (page parent : Page) (new : ℕ) (pages : List Page) (order : IsInOrder st) (fits : FinishInvariant st op) (sound : honest ≡ true)
     (at : op.at ≡ Link position) (read : IsReadToChange st honest op.session op.target.block page)
     (read_parent : IsReadToChange st honest op.session position.block parent) (ready : IsReadyToLink page parent op op)
-    (right : page.right ≡ Some new) (few : length st.pages ≤ st.limits.pages) (room : length (links_of parent.items) < st.limits.items)
+    (right : page.right ≡ Some new) (few : length st.pages ≤ st.format.pages) (room : length (links_of parent.items) < st.format.items)
     (linked : AreLinked parent page op.target.separator new pages) where
   pub may_link : MayActWith st (linked.parent_after ∷ linked.page_after ∷ [])
   may_link =
@@ -81,16 +81,16 @@ module _ (st : State) (op : FinishOp) (honest : Bool) (position : Position) (pag
       let page_at = linked.clear.block_is in
       let parent_at = linked.block_is in
       let count = linked.count in (
-        writable st.limits linked.parent_after linked.layout_is
+        writable st.format linked.parent_after linked.layout_is
             (linked.admitted read_parent.stored.storable.admitted (right_block page new read.stored.storable.admitted right)
             (high_bound page op.target.separator read.stored.storable.admitted ready.high_is))
             (omega arith),
         (omega arith, omega arith),
         ((λ same. two_pages st op honest position page parent new order fits sound at read read_parent ready right (sym page_at ∙ same ∙ parent_at)), tt),
         (
-          writable st.limits linked.page_after (ap (λ (p : Page). p.layout) linked.clear.only)
+          writable st.format linked.page_after (ap (λ (p : Page). p.layout) linked.clear.only)
               (linked.page_admitted read.stored.storable.admitted)
-              (subst (λ (i : Items). count_of i ≤ st.limits.items) (sym linked.page_items) read.stored.storable.few),
+              (subst (λ (i : Items). count_of i ≤ st.format.items) (sym linked.page_items) read.stored.storable.few),
           (omega arith, omega arith),
           tt,
           tt,

@@ -18,18 +18,18 @@ module _ (st : State) (op : FinishOp) (position : Position) (page parent : Page)
   linked_if blocks is = ap (λ (b : Bool). if b then blocks_linked st op.target position.block (slice_get st.pages position.block) else []) to_link ∙ is
 
   -- a parent with room is written, and the page whose split is finished
-  pub roomy_link : length (links_of parent.items) < st.limits.items → finish_blocks st op.target (Link position) ≡ position.block ∷ op.target.block ∷ []
+  pub roomy_link : length (links_of parent.items) < st.format.items → finish_blocks st op.target (Link position) ≡ position.block ∷ op.target.block ∷ []
   roomy_link room =
-      let roomy = lt-leb st.limits.items (length (links_of parent.items)) room in
+      let roomy = lt-leb st.format.items (length (links_of parent.items)) room in
       linked_if (position.block ∷ op.target.block ∷ []) (rw (there, roomy) refl)
 
   -- a full one is split, on a block
-  pub full_link : st.limits.items ≤ length (links_of parent.items)
+  pub full_link : st.format.items ≤ length (links_of parent.items)
       → (finish_blocks st op.target (Link position) ≡ position.block ∷ fresh_block st ∷ sibling parent.right ++ op.target.block ∷ []) × (takes_block_of st op.target (Link position) ≡ true)
   full_link full =
-      let no_room = le-leb st.limits.items (length (links_of parent.items)) full in (
+      let no_room = le-leb st.format.items (length (links_of parent.items)) full in (
         linked_if (position.block ∷ fresh_block st ∷ sibling parent.right ++ op.target.block ∷ []) (rw (there, no_room) refl),
-        and_from (is_to_link st op.target position) (is_full_parent st.limits.items (slice_get st.pages position.block)) to_link (rw (there, no_room) refl),
+        and_from (is_to_link st op.target position) (is_full_parent st.format.items (slice_get st.pages position.block)) to_link (rw (there, no_room) refl),
       )
 
 -- the metapage names the root's level

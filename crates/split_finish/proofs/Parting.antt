@@ -78,7 +78,7 @@ pub record PartsParent (st : State) (honest : Bool) (session : ℕ) (op : Finish
 -- the act that splits the parent, in a tree
 pub parent_split : (st : State) (session : ℕ) (op : FinishOp) (position : Position) (page parent left half clear : Page) (right : Option Page) (new : ℕ)
     (order : IsInOrder st) (fits : FinishInvariant st op) → op.at ≡ Link position
-    → PartsParent st true session op position page parent left half clear right new → AreActable st.limits (length st.pages) (halves_and left half right clear)
+    → PartsParent st true session op position page parent left half clear right new → AreActable st.format (length st.pages) (halves_and left half right clear)
     → ParentIsSplit st fits.start op.target.level op.target.separator page parent clear left half (mended_to half.block right) new
 parent_split st session op position page parent left half clear right new order fits at_is h may =
     let ready = ready_parent parent (suc op.target.level) op.target.separator h.ready.ready in
@@ -112,7 +112,7 @@ parent_split st session op position page parent left half clear right new order 
 pub parts : {S : Type 0} (g : Ghosts S) (before after : FinishOp) (old new : S) (position : Position) (page parent left half clear : Page) (right : Option Page) (new_block : ℕ) (target : Target)
     → Continues g.follows old new → before.at ≡ Link position → ((g.backing new).honest ≡ true → (g.backing old).honest ≡ true)
     → PartsParent (g.state old) (g.backing old).honest before.session before position page parent left half clear right new_block
-    → AreActable (g.state old).limits (length (g.state old).pages) (halves_and left half right clear)
+    → AreActable (g.state old).format (length (g.state old).pages) (halves_and left half right clear)
     → g.state new ≡ after_act (halves_and left half right clear) (g.state old)
     → after ≡ record before { target = target; at = Start } → target.block ≡ left.block → target.level ≡ left.level → left.high ≡ Some target.separator
     → FinishActs g before after old new (Ok Going)
@@ -137,7 +137,7 @@ parts g before after old new position page parent left half clear right new_bloc
       let edit = parent_edit st fits.start level s page parent clear left half mended new_block order.tree split in
       let added_to : State = after_act changed st in
       let left_there : slice_get added_to.pages parent.block ≡ Some left = subst (λ (b : ℕ). slice_get added_to.pages b ≡ Some left) h.left_block
-      (pages_first st.limits (length st.pages) st.pages left (half ∷ mended ++ clear ∷ []) may (omega arith)) in
+      (pages_first st.format (length st.pages) st.pages left (half ∷ mended ++ clear ∷ []) may (omega arith)) in
       let left_live : left.state ≡ Live = ap (λ (n : Node). n.state) h.split.halves.left_is in
       let left_level : left.level ≡ suc level = ap (λ (n : Node). n.level) h.split.halves.left_is ∙ (ready_parent parent (suc level) s h.ready.ready).level_is in
       let start : IsStart st.running fits.start = record { session = before.session; is = fits.running } in
@@ -215,8 +215,8 @@ apart_append b (x ∷ xs) page h ne = (h.0, apart_append b xs page h.1 ne)
 
 -- the page to the right, and the page whose split is finished
 beside_may : (st : State) (session new : ℕ) (link : Option ℕ) (right : Option Page) (clear : Page) → RightIsStored st session link right
-    → AreActable st.limits (length st.pages) (mended_to new right) → IsWritable st.limits clear → clear.block ≤ length st.pages → clear.block < st.limits.pages → link ≢ Some clear.block
-    → AreActable st.limits (length st.pages) (mended_to new right ++ clear ∷ [])
+    → AreActable st.format (length st.pages) (mended_to new right) → IsWritable st.format clear → clear.block ≤ length st.pages → clear.block < st.format.pages → link ≢ Some clear.block
+    → AreActable st.format (length st.pages) (mended_to new right ++ clear ∷ [])
 beside_may st session new None None clear stored may storable low inside differ = (storable, (low, inside), tt, tt)
 beside_may st session new None (Some page) clear stored may storable low inside differ = absurd stored
 beside_may st session new (Some r) None clear stored may storable low inside differ = absurd stored
@@ -226,11 +226,11 @@ beside_may st session new (Some r) (Some page) clear stored may storable low ins
 -- the pages of the act may be written
 pub parts_may : (st : State) (session : ℕ) (op : FinishOp) (position : Position) (page parent left half clear : Page) (right : Option Page) (new : ℕ)
     (order : IsInOrder st) (fits : FinishInvariant st op) → op.at ≡ Link position
-    → PartsParent st true session op position page parent left half clear right new → length st.pages ≤ st.limits.pages
+    → PartsParent st true session op position page parent left half clear right new → length st.pages ≤ st.format.pages
     → IsPage left → IsPage half → HasLinks left.items → HasLinks half.items → HasLinks parent.items → 4 ≤ length (links_of parent.items)
     → length (links_of left.items) ≡ left_count (length (links_of parent.items)) → length (links_of left.items) + length (links_of half.items) ≡ length (links_of parent.items) + 1
-    → IsBlock half.block → IsPage clear → count_of clear.items ≤ st.limits.items → RightIsMendable st parent.right → parent.right ≢ Some parent.block → parent.right ≢ Some page.block
-    → AreActable st.limits (length st.pages) (halves_and left half right clear)
+    → IsBlock half.block → IsPage clear → count_of clear.items ≤ st.format.items → RightIsMendable st parent.right → parent.right ≢ Some parent.block → parent.right ≢ Some page.block
+    → AreActable st.format (length st.pages) (halves_and left half right clear)
 parts_may st session op position page parent left half clear right new order fits at_is h few left_page half_page left_links half_links parent_links some
     kept moved block clear_page clear_few mendable apart_q apart_p =
     let ready = ready_parent parent (suc op.target.level) op.target.separator h.ready.ready in
@@ -244,22 +244,22 @@ parts_may st session op position page parent left half clear right new order fit
     let beside : RightMay st parent.block half.block right = right_may st session parent.block half.block parent.right right few h.fresh block mendable apart_q h.right_stored in
     let clear_is : clear.block ≡ page.block = h.clears.block_is in
     let levels : page.block ≢ parent.block = λ same. two_levels (subst (λ (b : ℕ). slice_get st.pages b ≡ Some parent) (sym same) found_parent) found ready.level_is h.ready.level_is in
-    let all : length (links_of parent.items) ≤ st.limits.items = subst (λ (n : ℕ). n ≤ st.limits.items) (links_count parent.items parent_links) h.read_parent.stored.storable.few in
+    let all : length (links_of parent.items) ≤ st.format.items = subst (λ (n : ℕ). n ≤ st.format.items) (links_count parent.items parent_links) h.read_parent.stored.storable.few in
     let not_new : page.block ≢ half.block = fresh_apart st half.block page.block page h.fresh found (λ gone. live_not_deleted (sym alive ∙ gone)) in
     let not_new_parent : parent.block ≢ half.block = fresh_apart st half.block parent.block parent h.fresh found_parent (λ gone. live_not_deleted (sym ready.alive ∙ gone)) in (
-      writable st.limits left h.left_layout left_page (subst (λ (n : ℕ). n ≤ st.limits.items) (sym (links_count left.items left_links)) (omega (arith, kept, all, some))),
-      (subst (λ (b : ℕ). b ≤ length st.pages) (sym h.left_block) (omega (arith, used_parent)), subst (λ (b : ℕ). b < st.limits.pages) (sym h.left_block) (omega (arith, used_parent, few))),
+      writable st.format left h.left_layout left_page (subst (λ (n : ℕ). n ≤ st.format.items) (sym (links_count left.items left_links)) (omega (arith, kept, all, some))),
+      (subst (λ (b : ℕ). b ≤ length st.pages) (sym h.left_block) (omega (arith, used_parent)), subst (λ (b : ℕ). b < st.format.pages) (sym h.left_block) (omega (arith, used_parent, few))),
       (
         (λ same. not_new_parent (sym h.left_block ∙ sym same)),
         subst (λ (b : ℕ). IsApartFrom b (mended_to half.block right ++ clear ∷ [])) (sym h.left_block)
             (apart_append parent.block (mended_to half.block right) clear beside.apart (λ same. levels (sym clear_is ∙ same))),
       ),
       (
-        writable st.limits half h.half_layout half_page (subst (λ (n : ℕ). n ≤ st.limits.items) (sym (links_count half.items half_links)) (omega (arith, kept, moved, all, some))),
+        writable st.format half h.half_layout half_page (subst (λ (n : ℕ). n ≤ st.format.items) (sym (links_count half.items half_links)) (omega (arith, kept, moved, all, some))),
         (h.fresh.within, h.fresh.inside),
         apart_append half.block (mended_to half.block right) clear beside.apart_new (λ same. not_new (sym clear_is ∙ same)),
-        beside_may st session half.block parent.right right clear h.right_stored beside.may (writable st.limits clear (ap (λ (p : Page). p.layout) h.clears.only) clear_page clear_few)
-            (subst (λ (b : ℕ). b ≤ length st.pages) (sym clear_is) (omega (arith, used))) (subst (λ (b : ℕ). b < st.limits.pages) (sym clear_is) (omega (arith, used, few)))
+        beside_may st session half.block parent.right right clear h.right_stored beside.may (writable st.format clear (ap (λ (p : Page). p.layout) h.clears.only) clear_page clear_few)
+            (subst (λ (b : ℕ). b ≤ length st.pages) (sym clear_is) (omega (arith, used))) (subst (λ (b : ℕ). b < st.format.pages) (sym clear_is) (omega (arith, used, few)))
             (λ same. apart_p (same ∙ ap Some clear_is)),
       ),
     )

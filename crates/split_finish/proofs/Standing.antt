@@ -76,7 +76,7 @@ pub rises_to : (st : State) (op after : FinishOp) (position : Position) (page : 
     → Pushed (record { block = position.block; level = position.level; separator = separator }) op after → FinishStands st fits.start op.target (Down position)
     → slice_get st.pages position.block ≡ Some page → page.state ≡ Live → page.high ≡ Some separator → FinishInvariant st after
 rises_to st op after position page separator h fits pushed on found alive high =
-    let there : page.block ≡ position.block = (stored_page st.limits position.block st.pages page h.stored found).block_is in
+    let there : page.block ≡ position.block = (stored_page st.format position.block st.pages page h.stored found).block_is in
     let found_there : slice_get st.pages page.block ≡ Some page = subst (λ (b : ℕ). slice_get st.pages b ≡ Some page) (sym there) found in
     let place_there = subst (LeadsTo st fits.start position.level (bound_aim op.target.separator) true) (sym there) on.place in
     let newer : Target = record { block = position.block; level = position.level; separator = separator } in
@@ -102,7 +102,7 @@ pub live_level : (st : State) (start level : ℕ) (aim : Bound → Bool) (clear 
     → LeadsTo st start level aim clear block → slice_get st.pages block ≡ Some page
     → page.state ≡ Live → page.level ≡ level
 live_level st start level aim clear block page h place found alive =
-    let there : page.block ≡ block = (stored_page st.limits block st.pages page h.stored found).block_is in
+    let there : page.block ≡ block = (stored_page st.format block st.pages page h.stored found).block_is in
     (live_shows st start level aim clear page h (subst (λ (b : ℕ). slice_get st.pages b ≡ Some page) (sym there) found) (subst (LeadsTo st start level aim clear) (sym there) place) alive).level_is
 
 some_none : {A : Type 0} (x : Option A) → IsSome x → x ≡ None → ⊥
@@ -124,7 +124,7 @@ incomplete_has page admitted incomplete = by page.items refl admitted.kind
     by (Downlinks v) is h = ((λ none. some_none page.high (h.high.1 (h.split incomplete)) none), h.state, (λ none. some_none page.right (h.split incomplete) none))
 
 pub incomplete_in : (st : State) (block : ℕ) (page : Page) → HasTree st → slice_get st.pages block ≡ Some page → page.split ≡ true → (page.high ≡ None → ⊥) × (page.state ≡ Live) × (page.right ≡ None → ⊥)
-incomplete_in st block page h found = incomplete_has page (stored_page st.limits block st.pages page h.stored found).storable.admitted
+incomplete_in st block page h found = incomplete_has page (stored_page st.format block st.pages page h.stored found).storable.admitted
 
 -- in a tree a page that is not both live and with an incomplete split has no incomplete split
 pub not_incomplete : (st : State) (block : ℕ) (page : Page) → HasTree st → slice_get st.pages block ≡ Some page → (page.state ≡ Live → page.split ≡ false) → page.split ≡ false
@@ -151,7 +151,7 @@ fits_popped st before after start popped session free running below = record {
 pub fits_retaken : (st : State) (op after : FinishOp) (separator : Bound) (at : FinishAt) (page : Page) → HasTree st → (fits : FinishInvariant st op) → Retaken separator at op after
     → slice_get st.pages op.target.block ≡ Some page → page.state ≡ Live → page.high ≡ Some separator → FinishStands st fits.start after.target at → FinishInvariant st after
 fits_retaken st op after separator at page h fits taken found alive high stands =
-    let there : page.block ≡ op.target.block = (stored_page st.limits op.target.block st.pages page h.stored found).block_is in
+    let there : page.block ≡ op.target.block = (stored_page st.format op.target.block st.pages page h.stored found).block_is in
     let found_there : slice_get st.pages page.block ≡ Some page = subst (λ (b : ℕ). slice_get st.pages b ≡ Some page) (sym there) found in
     let place_there = subst (LeadsTo st fits.start op.target.level (bound_aim op.target.separator) true) (sym there) fits.newest.place in
     let place : LeadsTo st fits.start op.target.level (bound_aim separator) true op.target.block =
@@ -184,7 +184,7 @@ to_finish st start level aim block page h place found incomplete =
     let has = incomplete_in st block page h found incomplete in
     let high = some_is page.high has.0 in
     let right = some_is page.right has.2 in
-    let there : page.block ≡ block = (stored_page st.limits block st.pages page h.stored found).block_is in
+    let there : page.block ≡ block = (stored_page st.format block st.pages page h.stored found).block_is in
     let found_there : slice_get st.pages page.block ≡ Some page = subst (λ (b : ℕ). slice_get st.pages b ≡ Some page) (sym there) found in
     record {
       separator = high.0;

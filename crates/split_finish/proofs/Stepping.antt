@@ -61,7 +61,7 @@ turns g before after old new (Ok Going) steps same session kept runs turned = re
   table = ap (λ (st : State). st.table) same;
   refused = tt;
   stopped = λ h. absurd (runs h);
-  less = λ honest is acts. subst (λ (st : State). finish_left st.limits.pages st.pages after < finish_left (g.state old).limits.pages (g.state old).pages before) (sym same) (turned honest).less;
+  less = λ honest is acts. subst (λ (st : State). finish_left st.format.pages st.pages after < finish_left (g.state old).format.pages (g.state old).pages before) (sym same) (turned honest).less;
   over = λ honest is. absurd cc;
   stepped = λ honest order fits. record {
     effect = None;
@@ -159,9 +159,9 @@ after_more g before after old mid new result read acts = record {
   kept = subst (λ (st : State). IsOneActAtMost st (g.state new)) read.same acts.kept;
   table = subst (λ (st : State). (g.state new).table ≡ st.table) read.same acts.table;
   refused = subst (λ (st : State). OnErr result (FinishStays st (g.state new) before after)) read.same acts.refused;
-  less = λ honest is same. subst (λ (st : State). finish_left (g.state new).limits.pages (g.state new).pages after < finish_left st.limits.pages st.pages before) read.same
+  less = λ honest is same. subst (λ (st : State). finish_left (g.state new).format.pages (g.state new).pages after < finish_left st.format.pages st.pages before) read.same
       (acts.less honest is (same ∙ ap (λ (st : State). st.acts) (sym read.same)));
-  over = λ honest is same. subst (λ (st : State). 34 * suc (walk_length st.limits.pages) ≤ finish_left st.limits.pages st.pages before) read.same
+  over = λ honest is same. subst (λ (st : State). 34 * suc (walk_length st.format.pages) ≤ finish_left st.format.pages st.pages before) read.same
       (acts.over honest is (same ∙ ap (λ (st : State). st.acts) (sym read.same)));
   stepped = λ honest order fits. earlier_stepped (g.state old) (g.state new) (g.backing old) (g.backing mid) (g.backing new) before after result read.failures read.alive read.promised
       (subst (λ (st : State). FinishStepped st (g.backing mid) (g.state new) (g.backing new) before after result) read.same
@@ -169,9 +169,9 @@ after_more g before after old mid new result read acts = record {
 }
 
 -- the whole step, from its readings on
-pub behind : {S : Type 0} (g : Ghosts S) (before after : FinishOp) (old mid new : S) (result : Result FinishStep Fault) → HasRead g old mid → ((g.backing old).stopped ≡ true → ⊥)
+pub follows_read : {S : Type 0} (g : Ghosts S) (before after : FinishOp) (old mid new : S) (result : Result FinishStep Fault) → HasRead g old mid → ((g.backing old).stopped ≡ true → ⊥)
     → FinishActs g before after mid new result → FinishSteps g before after old new result
-behind g before after old mid new result read runs acts =
+follows_read g before after old mid new result read runs acts =
     let all = after_more g before after old mid new result read acts in
     record {
       steps = all.steps;

@@ -10,11 +10,11 @@ use Rattle.split_finish.proofs.Standing.{fits_moved, rises_to, fits_popped, fits
 
 -- the same targets, and another step
 pub turn_moved : (st : State) (op : FinishOp) (context at : FinishAt) → op.at ≡ context
-    → left st.limits.pages (nodes_of st.pages) op.below.items op.target at < left st.limits.pages (nodes_of st.pages) op.below.items op.target context
+    → left st.format.pages (nodes_of st.pages) op.below.items op.target at < left st.format.pages (nodes_of st.pages) op.below.items op.target context
     → (HasTree st → (fits : FinishInvariant st op) → FinishStands st fits.start op.target context → FinishStands st fits.start op.target at)
     → TurnContinues st op (record op { at = at })
 turn_moved st op context at is less stands = record {
-  less = subst (λ (a : FinishAt). left st.limits.pages (nodes_of st.pages) op.below.items op.target at < left st.limits.pages (nodes_of st.pages) op.below.items op.target a) (sym is) less;
+  less = subst (λ (a : FinishAt). left st.format.pages (nodes_of st.pages) op.below.items op.target at < left st.format.pages (nodes_of st.pages) op.below.items op.target a) (sym is) less;
   fits = λ h fits. fits_moved st op at fits (stands h fits (subst (FinishStands st fits.start op.target) is fits.stands));
   flags = λ h. h;
 }
@@ -67,7 +67,7 @@ turn_risen st op after position page separator is pushed found alive incomplete 
     let newer : Target = record { block = position.block; level = position.level; separator = separator } in
     let list : targets_of after ≡ targets_of op ++ newer ∷ [] = rw (pushed.below_is, pushed.target_is) refl in
     record {
-      less = rw (pushed.below_is, pushed.target_is, pushed.at_is) (less_pushed st.limits.pages (nodes_of st.pages) op.below.items op.target newer op.at (as_read st newer page found incomplete high) few);
+      less = rw (pushed.below_is, pushed.target_is, pushed.at_is) (less_pushed st.format.pages (nodes_of st.pages) op.below.items op.target newer op.at (as_read st newer page found incomplete high) few);
       fits = λ h fits. rises_to st op after position page separator h fits pushed (subst (FinishStands st fits.start op.target) is fits.stands) found alive high;
       flags = λ h block k. subst (λ (ts : List Target). is_among_targets ts block ≡ true) (sym list) (among_more (targets_of op) (newer ∷ []) block (h block k));
     }
@@ -105,12 +105,12 @@ pub turn_popped : (st : State) (op after : FinishOp) (step : FinishStep) (page :
     → Turned st op after (Ok step)
 turn_popped st op after Going page popped found whole = record {
   less = rw popped.at_is
-      (less_popped st.limits.pages (nodes_of st.pages) op.below.items op.target after.below.items after.target op.at popped.list_is (stale_is st op.target page found whole) popped.few);
+      (less_popped st.format.pages (nodes_of st.pages) op.below.items op.target after.below.items after.target op.at popped.list_is (stale_is st op.target page found whole) popped.few);
   fits = λ h fits. fits_popped st op after fits.start popped fits.session fits.free fits.running fits.below;
   flags = λ h. flags_popped st st op after popped h (λ block k. (k, λ same. true≢false (sym k ∙ ap (is_incomplete st) (sym same) ∙ whole_is st op.target.block page found whole)));
 }
 turn_popped st op after Done page popped found whole = record {
-  over = rw popped.0 (over_alone st.limits.pages (nodes_of st.pages) op.target op.at (stale_is st op.target page found whole));
+  over = rw popped.0 (over_alone st.format.pages (nodes_of st.pages) op.target op.at (stale_is st op.target page found whole));
   flags = λ h. flags_gone st st op after popped h (λ block k. (k, λ same. true≢false (sym k ∙ ap (is_incomplete st) (sym same) ∙ whole_is st op.target.block page found whole)));
 }
 
@@ -121,12 +121,12 @@ stale_high st target page high found incomplete is other = rw (node_there st.pag
 
 pub turn_retaken : (st : State) (op after : FinishOp) (separator : Bound) (at : FinishAt) (page : Page) → Retaken separator at op after
     → slice_get st.pages op.target.block ≡ Some page → page.split ≡ true → page.high ≡ Some separator → is_eq (bound_cmp separator op.target.separator) ≡ false → length op.below.items ≤ 31
-    → detour (nodes_of st.pages) (record op.target { separator = separator }) at ≡ 0 → walk_left st.limits.pages at ≤ walk_length st.limits.pages
+    → detour (nodes_of st.pages) (record op.target { separator = separator }) at ≡ 0 → walk_left st.format.pages at ≤ walk_length st.format.pages
     → ((start : ℕ) (target : Target) → FinishStands st start target at) → TurnContinues st op after
 turn_retaken st op after separator at page taken found incomplete high other few straight short stands =
     let newer : Target = record op.target { separator = separator } in
     record {
-      less = rw (taken.target_is, taken.below_is, taken.at_is) (less_retaken st.limits.pages (nodes_of st.pages) op.below.items op.target newer op.at at
+      less = rw (taken.target_is, taken.below_is, taken.at_is) (less_retaken st.format.pages (nodes_of st.pages) op.below.items op.target newer op.at at
           (stale_high st op.target page separator found incomplete high other) (as_read st newer page found incomplete high) straight short few);
       fits = λ h fits. fits_retaken st op after separator at page h fits taken found (incomplete_in st op.target.block page h found incomplete).1 high (stands fits.start after.target);
       flags = λ h block k. rw (taken.target_is, taken.below_is) (among_same op.below.items op.target newer block refl (h block k));

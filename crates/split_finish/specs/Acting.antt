@@ -69,7 +69,7 @@ pub record AreGrown (meta page : Page) (separator : Bound) (new fresh : ℕ) (pa
 -- the page of this block as it was read to be changed: no other session holds it
 pub record IsReadToChange (st : State) (honest : Bool) (session block : ℕ) (page : Page) : Type 0 where
   pub found : honest ≡ true → slice_get st.pages block ≡ Some page
-  pub stored : IsStored st.limits block page
+  pub stored : IsStored st.format block page
   pub free : is_held_by_another st.table session block Exclusive ≡ false
 
 -- a call has read its newest target and the parent of that, and may put the downlink there
@@ -106,7 +106,7 @@ pub record HaveRoom (st : State) (honest : Bool) (op : FinishOp) (at new : ℕ) 
   pub are : AreReady st honest op pages
   pub right : are.page.right ≡ Some new
   pub place : IsLinkPlace are.parent are.page.block op.target.separator at
-  pub room : length (links_of are.parent.items) < st.limits.items
+  pub room : length (links_of are.parent.items) < st.format.items
 
 -- a call has read the metapage and its newest target, and may make a new root
 pub record MeetsRoot (st : State) (honest : Bool) (op : FinishOp) (meta page : Page) : Type 0 where
@@ -126,12 +126,12 @@ pub record FinishActs {S : Type 0} (g : Ghosts S) (before after : FinishOp) (old
   pub refused : OnErr result (FinishStays (g.state old) (g.state new) before after)
   pub less : (g.backing new).honest ≡ true → result ≡ Ok Going
       → (g.state new).acts ≡ (g.state old).acts
-      → finish_left (g.state new).limits.pages (g.state new).pages after
-      < finish_left (g.state old).limits.pages (g.state old).pages before
+      → finish_left (g.state new).format.pages (g.state new).pages after
+      < finish_left (g.state old).format.pages (g.state old).pages before
   pub over : (g.backing new).honest ≡ true → result ≡ Ok Done
       → (g.state new).acts ≡ (g.state old).acts
-      → 34 * suc (walk_length (g.state old).limits.pages)
-      ≤ finish_left (g.state old).limits.pages (g.state old).pages before
+      → 34 * suc (walk_length (g.state old).format.pages)
+      ≤ finish_left (g.state old).format.pages (g.state old).pages before
   pub stepped : (g.backing new).honest ≡ true → IsInOrder (g.state old)
       → FinishInvariant (g.state old) before
       → FinishStepped (g.state old) (g.backing old) (g.state new) (g.backing new) before after result

@@ -53,7 +53,7 @@ is_full_parent items (Some page) = nat_le items (length (links_of page.items))
 -- target, whose split is finished; if it is full, of its right half and its right sibling too
 abbrev pub blocks_linked : State → Target → ℕ → Option Page → List ℕ
 blocks_linked st target parent None = parent ∷ target.block ∷ []
-blocks_linked st target parent (Some page) = if nat_le st.limits.items (length (links_of page.items))
+blocks_linked st target parent (Some page) = if nat_le st.format.items (length (links_of page.items))
     then parent ∷ fresh_block st ∷ sibling page.right ++ target.block ∷ []
     else parent ∷ target.block ∷ []
 
@@ -87,7 +87,7 @@ abbrev pub takes_block_of : State → Target → FinishAt → Bool
 takes_block_of st target Start = false
 takes_block_of st target (Down position) = false
 takes_block_of st target (Link position) = is_to_link st target position
-    && is_full_parent st.limits.items (slice_get st.pages position.block)
+    && is_full_parent st.format.items (slice_get st.pages position.block)
 takes_block_of st target Root = is_to_grow st target
 
 -- why a step is refused of a call that stands there with this newest target, on pages that are a tree and a
@@ -126,13 +126,13 @@ pub record FinishSteps {S : Type 0} (g : Ghosts S) (before after : FinishOp) (ol
   pub stopped : (g.backing old).stopped ≡ true → result ≡ Err Stopped
   pub less : (g.backing new).honest ≡ true → result ≡ Ok Going
       → (g.state new).acts ≡ (g.state old).acts
-      → finish_left (g.state new).limits.pages (g.state new).pages after
-      < finish_left (g.state old).limits.pages (g.state old).pages before
+      → finish_left (g.state new).format.pages (g.state new).pages after
+      < finish_left (g.state old).format.pages (g.state old).pages before
   -- one that is done without an act found that its last target needn't be finished
   pub over : (g.backing new).honest ≡ true → result ≡ Ok Done
       → (g.state new).acts ≡ (g.state old).acts
-      → 34 * suc (walk_length (g.state old).limits.pages)
-      ≤ finish_left (g.state old).limits.pages (g.state old).pages before
+      → 34 * suc (walk_length (g.state old).format.pages)
+      ≤ finish_left (g.state old).format.pages (g.state old).pages before
   pub stepped : (g.backing new).honest ≡ true → IsInOrder (g.state old)
       → FinishInvariant (g.state old) before
       → FinishStepped (g.state old) (g.backing old) (g.state new) (g.backing new) before after result

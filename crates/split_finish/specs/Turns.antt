@@ -49,14 +49,14 @@ pub record Retaken (separator : Bound) (at : FinishAt) (before after : FinishOp)
 -- a turn that goes on: less is left to do, the call stands where it may, and only targets have incomplete
 -- splits
 pub record TurnContinues (st : State) (before after : FinishOp) : Type 0 where
-  pub less : finish_left st.limits.pages st.pages after < finish_left st.limits.pages st.pages before
+  pub less : finish_left st.format.pages st.pages after < finish_left st.format.pages st.pages before
   pub fits : HasTree st → FinishInvariant st before → FinishInvariant st after
   pub flags : OnlyTargetsAreIncomplete st (targets_of before) → OnlyTargetsAreIncomplete st (targets_of after)
 
 -- the last turn: the only target needn't be finished, so as much was left to do as before the first step for
 -- it; if only targets had incomplete splits, no page has one
 pub record TurnIsOver (st : State) (before : FinishOp) : Type 0 where
-  pub over : 34 * suc (walk_length st.limits.pages) ≤ finish_left st.limits.pages st.pages before
+  pub over : 34 * suc (walk_length st.format.pages) ≤ finish_left st.format.pages st.pages before
   pub flags : OnlyTargetsAreIncomplete st (targets_of before) → (block : ℕ) → is_incomplete st block ≡ false
 
 -- whether a step that stands there with this newest target is to split the root: the target has an incomplete

@@ -113,7 +113,7 @@ impl FinishOp {
     ) -> Result<FinishStep, Fault>
         requires room { HaveRoom (S.state store.old) (S.backing store.old).honest self.old at new
             pages.old }
-        requires few { (S.state store.old).limits.items ≤ 50 }
+        requires few { (S.state store.old).format.items ≤ 50 }
         ensures all { FinishActs S.PageStore self.old self.new store.old store.new result }
         ensures faults { IfErr result (HasCause causes_of_splitting_any) }
     {

@@ -44,13 +44,13 @@ fn act_on_halves<S: PageStore>(
 ) -> Result<u64, Fault>
     ensures steps { Continues S.follows store.old store.new }
     ensures may { OnOk result
-        (AreActable (S.state store.old).limits (length (S.state store.old).pages)
+        (AreActable (S.state store.old).format (length (S.state store.old).pages)
         (halves_and left half right page)) }
     ensures done { OnOk result (S.state store.new
         ≡ after_act (halves_and left half right page) (S.state store.old)) }
     ensures refused { OnErr result (S.state store.new ≡ S.state store.old) }
     ensures faults { IfErr result (HasCause causes_of_splitting_any) }
-    ensures cause { AreActable (S.state store.old).limits (length (S.state store.old).pages)
+    ensures cause { AreActable (S.state store.old).format (length (S.state store.old).pages)
         (halves_and left half right page)
         → IfErr result (HasCause (causes_of_acting (S.state store.old) (S.backing store.old)
         (S.backing store.new) (halves_and left half right page))) }
@@ -81,7 +81,7 @@ impl FinishOp {
         requires right { page.now.right ≡ Some new }
         requires place { IsLinkPlace parent.now page.now.block self.old.target.separator at }
         requires full { 4 ≤ length (links_of parent.now.items) }
-        requires no_room { (S.state store.old).limits.items ≤ length (links_of parent.now.items) }
+        requires no_room { (S.state store.old).format.items ≤ length (links_of parent.now.items) }
         requires some { 0 < length (S.state store.old).pages }
         ensures all { FinishActs S.PageStore self.old self.new store.old store.new result }
         ensures faults { IfErr result (HasCause causes_of_splitting_any) }
@@ -111,7 +111,7 @@ impl FinishOp {
         requires right { page.right ≡ Some new }
         requires place { IsLinkPlace parent page.block self.old.target.separator at }
         requires full { 4 ≤ length (links_of parent.items) }
-        requires no_room { (S.state store.old).limits.items ≤ length (links_of parent.items) }
+        requires no_room { (S.state store.old).format.items ≤ length (links_of parent.items) }
         requires some { 0 < length (S.state store.old).pages }
         requires beside { RightIsStored (S.state store.old) self.old.session parent.right right }
         requires beside_found { (S.backing store.old).honest ≡ true

@@ -121,7 +121,7 @@ impl FinishOp {
         ensures refused { OnErr result (self.new ≡ self.old) }
         ensures faults { IfErr result (HasCause causes_of_splitting_any) }
         ensures turn { (st : State) → slice_get st.pages position.block ≡ Some page.now
-            → st.limits.pages ≡ most → length st.pages ≤ most
+            → st.format.pages ≡ most → length st.pages ≤ most
             → Turned st self.old self.new result }
     {
         if position.level <= self.target.level {

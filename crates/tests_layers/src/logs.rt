@@ -14,11 +14,11 @@ const PAGES: u32 = 32;
 const LEN: u64 = 4096 + 65_536 + 4096;
 
 fn replay(alloc: Global, device: &mut MemDevice) -> Result<Replayed, Fault> {
-    let limits = Format::new(&limits(PAGES));
-    if !limits.are_valid() || device.len() < LOG_START + u64::from(limits.log_bytes) {
+    let format = Format::new(&limits(PAGES));
+    if !format.are_valid() || device.len() < LOG_START + u64::from(format.log_bytes) {
         return Err(Fault::DeviceTooSmall);
     }
-    Log::replay(alloc, device, limits)
+    Log::replay(alloc, device, format)
 }
 
 fn append(log: &mut Log, pages: &[Page]) -> Result<u64, Fault> {

@@ -15,7 +15,7 @@ use std::test::Fail;
 use tests_support::dead::Blocks;
 use tests_support::plain::{fail_at, left, left_by, open_world, stop_at, world};
 use tests_support::small::made_with;
-use world::{NotOpened, World};
+use world::{World, WorldNotOpened};
 
 /// Pages in memory at once: all, so that who looks at a page makes no device call, and none of those that
 /// fail.
@@ -113,7 +113,7 @@ pub fn opening(
     match open_world(run.alloc, device, frames, run.space.sessions, sets) {
         Ok(world) => Ok(Ok(world)),
         Err(
-            NotOpened {
+            WorldNotOpened {
                 fault: Fault::Io,
                 device,
                 ..

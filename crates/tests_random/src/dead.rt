@@ -27,8 +27,8 @@ fn set_at(space: Space, place: u32) -> Blocks {
     if place == space.rows {
         return all;
     }
-    let behind = place.saturating_sub(space.rows).saturating_sub(1);
-    match SCRIPTED.get(behind as usize) {
+    let beyond = place.saturating_sub(space.rows).saturating_sub(1);
+    match SCRIPTED.get(beyond as usize) {
         Some(set) => *set,
         None => all,
     }

@@ -1,10 +1,10 @@
 //! Scripts during which device calls fail: each call of the device that a script makes fails once, and each
 //! with all after it.
 
-use crate::behind::Counted;
 use crate::dice::Space;
 use crate::failing::{fails, play};
 use crate::gates::stops_right;
+use crate::reopening::Counted;
 use crate::runs::Run;
 use crate::scripts::{
     ROWS, Script, after_the_frontier, delayed_reuse, forces, full, going_back, incomplete_split,

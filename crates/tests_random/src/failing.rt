@@ -1,9 +1,9 @@
 //! Scripts during which calls of the device fail: each once in turn, and each with all after it.
 
-use crate::behind::{Counted, opens_right, stops_opening};
 use crate::crashes::{FOR_ALL, OverDevice, on_a_device};
 use crate::judge::Judge;
 use crate::pages::copies;
+use crate::reopening::{Counted, opens_right, stops_opening};
 use crate::runs::{Run, fault_of, judge_of, one};
 use crate::scripts::{Line, Script};
 use index_model::Fault;

@@ -1,9 +1,9 @@
 //! A force whose last sync fails has written its gate: whether what it forced stands isn't known, and each
 //! opening after it is stopped at each of its calls.
 
-use crate::behind::{Counted, IMAGES, stopped_at};
 use crate::crashes::{FOR_ALL, OverDevice, is_sound, on_a_device, opened, store_of};
 use crate::pages::{contents, copies};
+use crate::reopening::{Counted, IMAGES, stopped_at};
 use crate::runs::Run;
 use device::MemDevice;
 use index_model::{Entry, Fault, Key, RowAddr};

@@ -3,8 +3,6 @@
 #![tactic(auto)]
 
 #[cfg(test)]
-mod behind;
-#[cfg(test)]
 mod crashes;
 #[cfg(test)]
 mod dead;
@@ -20,6 +18,8 @@ mod gates;
 mod judge;
 #[cfg(test)]
 mod pages;
+#[cfg(test)]
+mod reopening;
 #[cfg(test)]
 mod runs;
 #[cfg(test)]

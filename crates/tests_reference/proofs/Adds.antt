@@ -23,9 +23,9 @@ pub record IsAddAfter (start : Entry → Bool) (history : List Action) (number b
   pub action_is : slice_get history before ≡ Some (add_by number e)
   pub was_absent : is_there_after start history before e ≡ false
 
-pub behind : (start : Entry → Bool) (history : List Action) (number began ended : ℕ) (e : Entry) (action before : ℕ) → action ≡ suc before
+pub after_action : (start : Entry → Bool) (history : List Action) (number began ended : ℕ) (e : Entry) (action before : ℕ) → action ≡ suc before
     → IsAdded start history number began ended e action → IsAddAfter start history number before e
-behind start history number began ended e action before is added =
+after_action start history number began ended e action before is added =
     let same : added.before ≡ before = omega (arith, added.number_is) in
     record {
       action_is = subst (λ (k : ℕ). slice_get history k ≡ Some (add_by number e)) same added.action_is;

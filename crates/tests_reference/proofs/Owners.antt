@@ -46,8 +46,8 @@ next_side a b (inr l) = inr (omega arith)
 -- if each action of the list is owned, all are
 pub all_owned : (start : Entry → Bool) (history : List Action) (calls : List Call) (count : ℕ) → ((k : ℕ) → count ≤ k → slice_get history k ≡ None)
     → ((k : ℕ) → k < count → IsOwnedAt start history calls k) → ActionsAreOwned start history calls
-all_owned start history calls count behind owned before action is = by (cases_lt before count)
+all_owned start history calls count none_later owned before action is = by (cases_lt before count)
   where
     by : (before < count) ⊎ (count ≤ before) → IsOwned start history calls before action
     by (inl lt) = (owned before lt).owned action is
-    by (inr le) = let none = behind before le in absurd cc
+    by (inr le) = let none = none_later before le in absurd cc

@@ -14,7 +14,7 @@ struct Here {
     /// The page to the left.
     left: Option<u32>,
     /// Whether that has an incomplete split.
-    behind: bool,
+    left_is_split: bool,
 }
 
 fn number_of(place: usize) -> u32 {
@@ -104,7 +104,7 @@ fn fits_state(page: &Page, level: u32, here: &Here) -> bool {
         }
         PageState::HalfDead => {
             let is_empty = level == 0 && entries_on(page).is_empty();
-            is_empty && !page.split && !here.behind && page.high.is_some()
+            is_empty && !page.split && !here.left_is_split && page.high.is_some()
         }
         PageState::Deleted => false,
     }
@@ -128,7 +128,7 @@ fn past(page: &Page, here: &Here, block: u32) -> Here {
         block,
         low,
         left: Some(here.block),
-        behind: page.split,
+        left_is_split: page.split,
     }
 }
 
@@ -146,7 +146,7 @@ fn leftmost(pages: &[Page], level: u32) -> Option<Here> {
                 block,
                 low: None,
                 left: None,
-                behind: false,
+                left_is_split: false,
             });
         }
     }
@@ -196,7 +196,7 @@ fn are_all_on(pages: &[Page], level: u32, chain: &[Here]) -> bool {
 fn put_due(pages: &[Page], chain: &[Here], due: &mut Vec<Downlink>) -> Result<(), AllocError> {
     for here in chain {
         if let Some(page) = pages.get(here.block as usize) {
-            if page.state == PageState::Live && !here.behind {
+            if page.state == PageState::Live && !here.left_is_split {
                 due.push(Downlink {
                     bound: here.low,
                     child: here.block,
@@ -241,7 +241,7 @@ fn are_parents(
 fn is_root_level(root: u32, chain: &[Here]) -> bool {
     match chain {
         [only] => only.block == root,
-        [first, second] => first.block == root && second.behind,
+        [first, second] => first.block == root && second.left_is_split,
         _ => false,
     }
 }

@@ -12,7 +12,7 @@ use redo_log::Advance;
 use schedule::Event;
 use session_calls::Answer;
 use std::alloc::Global;
-use world::{NotOpened, World};
+use world::{World, WorldNotOpened};
 
 /// More steps than any call of a test makes.
 const LIMIT: u32 = 1_000_000;
@@ -113,7 +113,7 @@ pub fn open_world<D: Device, T: DeadRows + Drop>(
     frames: u32,
     sessions: u32,
     sets: Vec<T>,
-) -> Result<World<Store<D>, T>, NotOpened<D, T>> {
+) -> Result<World<Store<D>, T>, WorldNotOpened<D, T>> {
     World::open(alloc, device, frames, sessions, sets)
 }
 

@@ -39,8 +39,8 @@ parts_of_digits text front back at found digits spelled =
     let place : Some at ≡ Some (length front) = sym found ∙ rw spelled (comma_after_digits front back digits) in
     let same : at ≡ length front = cc in
     let cut : drop (length front) (front ++ (44 ∷ back)) ≡ 44 ∷ back = drop_at front (44 ∷ back) (length front) refl in
-    let behind : drop 1 (drop (length front) (front ++ (44 ∷ back))) ≡ back = rw cut refl in
-    rw (same, spelled) (take_at front (44 ∷ back) (length front) refl, rw (sym (drop-drop 1 (length front) (front ++ (44 ∷ back)))) behind)
+    let after_comma : drop 1 (drop (length front) (front ++ (44 ∷ back))) ≡ back = rw cut refl in
+    rw (same, spelled) (take_at front (44 ∷ back) (length front) refl, rw (sym (drop-drop 1 (length front) (front ++ (44 ∷ back)))) after_comma)
 
 -- a text without a comma has no digits before one
 pub no_digits : (text front back : List ℕ) → position (λ byte. byte == 44) text ≡ None → AllDigits 10 front → text ≡ front ++ (44 ∷ back) → ⊥

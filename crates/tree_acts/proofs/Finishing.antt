@@ -49,7 +49,7 @@ module _ (st : State) (start level : ℕ) (s : Bound) (p : Page) (new : ℕ) (ha
   p_here = node_there st.pages p.block p u.found
 
   pub p_lives : (nodes_of st.pages p.block).state ≡ Live
-  p_lives = ap (λ (n : Node). n.state) p_here ∙ incomplete_lives p (stored_page st.limits p.block st.pages p has.stored u.found).storable.admitted u.incomplete
+  p_lives = ap (λ (n : Node). n.state) p_here ∙ incomplete_lives p (stored_page st.format p.block st.pages p has.stored u.found).storable.admitted u.incomplete
 
   -- ... and when its split is finished
   pub p_stays : (after : Page) → IsClear p after → after.state ≢ Deleted
@@ -85,17 +85,17 @@ module _ (st : State) (start level : ℕ) (s : Bound) (p q p_after q_after : Pag
     added = links_of q_after.items;
     put = rw q_here h.added;
     parent_is = subst (λ (b : ℕ). nodes_of (with_pages st.pages (q_after ∷ p_after ∷ [])) b ≡ node_of q_after) h.block_is
-        (node_there (with_pages st.pages (q_after ∷ p_after ∷ [])) q_after.block q_after (pages_first st.limits (length st.pages) st.pages q_after (p_after ∷ []) h.may (omega arith)))
+        (node_there (with_pages st.pages (q_after ∷ p_after ∷ [])) q_after.block q_after (pages_first st.format (length st.pages) st.pages q_after (p_after ∷ []) h.may (omega arith)))
         ∙ h.after_is ∙ ap (λ (n : Node). with_links n (links_of q_after.items)) (sym q_here);
     cleared_is = subst (λ (b : ℕ). nodes_of (with_pages st.pages (q_after ∷ p_after ∷ [])) b ≡ node_of p_after) h.clear.block_is
-        (node_there (with_pages st.pages (q_after ∷ p_after ∷ [])) p_after.block p_after (pages_second st.limits (length st.pages) st.pages q_after p_after [] h.may (omega arith)))
+        (node_there (with_pages st.pages (q_after ∷ p_after ∷ [])) p_after.block p_after (pages_second st.format (length st.pages) st.pages q_after p_after [] h.may (omega arith)))
         ∙ h.clear.after_is ∙ ap (λ (n : Node). cleared n) (sym (p_here st start level s p new has h.unfinished));
     others = λ c not_p not_q. node_same st.pages (with_pages st.pages (q_after ∷ p_after ∷ [])) c
-        (pages_other st.limits (length st.pages) st.pages (q_after ∷ p_after ∷ []) c h.may (omega arith) (finish_apart c not_p not_q));
+        (pages_other st.format (length st.pages) st.pages (q_after ∷ p_after ∷ []) c h.may (omega arith) (finish_apart c not_p not_q));
   }
 
   pub finish_used : length (with_pages st.pages (q_after ∷ p_after ∷ [])) ≡ length st.pages
-  finish_used = pages_length st.limits (length st.pages) st.pages (q_after ∷ p_after ∷ []) h.may (omega arith)
+  finish_used = pages_length st.format (length st.pages) st.pages (q_after ∷ p_after ∷ []) h.may (omega arith)
       ∙ (let a = slice_get_within st.pages q.block q h.found in let b = finish_p.inside in let c = h.block_is in let d = h.clear.block_is in omega arith)
 
   finish_in_use : NoneIsDeleted (q_after ∷ p_after ∷ [])
@@ -107,7 +107,7 @@ module _ (st : State) (start level : ℕ) (s : Bound) (p q p_after q_after : Pag
   finish_meta : MetaIs (with_pages st.pages (q_after ∷ p_after ∷ [])) has.tree.root has.tree.meta.level
   finish_meta = record {
     meta = has.tree.meta;
-    at = pages_other st.limits (length st.pages) st.pages (q_after ∷ p_after ∷ []) 0 h.may (omega arith)
+    at = pages_other st.format (length st.pages) st.pages (q_after ∷ p_after ∷ []) 0 h.may (omega arith)
         (finish_apart 0 (λ same. (let a = finish_p.above in omega arith)) (λ same. (let a = (has.tree.is.in_use (suc level) q.block finish_q.0 finish_q.1).0 in omega arith)))
         ∙ has.tree.meta_at;
     names = has.tree.names_root;
@@ -121,7 +121,7 @@ module _ (st : State) (start level : ℕ) (s : Bound) (p q p_after q_after : Pag
   finish_goes least = rw finish_used (finish_keeps (nodes_of st.pages) (nodes_of (with_pages st.pages (q_after ∷ p_after ∷ []))) (slice_index st.counted)
       (slice_index (after_act (q_after ∷ p_after ∷ []) st).counted) (length st.pages) has.tree.root has.tree.meta.level has.tree.chain least level p.block q.block s has.tree.is finish_q.0
       finish_edit refl finish_p.fits finish_q.1
-      (λ c not_p not_q. counts_other st.limits (length st.pages) st.counted st.pages (q_after ∷ p_after ∷ []) c has.counted h.may (omega arith) (finish_apart c not_p not_q)))
+      (λ c not_p not_q. counts_other st.format (length st.pages) st.counted st.pages (q_after ∷ p_after ∷ []) c has.counted h.may (omega arith) (finish_apart c not_p not_q)))
 
   pub finishing : TreeLasts st (after_act (q_after ∷ p_after ∷ []) st) × ContentsStay st (after_act (q_after ∷ p_after ∷ []) st)
   finishing = (
@@ -159,11 +159,11 @@ module _ (st : State) (start level : ℕ) (s : Bound) (p q p_after left right : 
   parent_left : nodes_of (with_pages st.pages (left ∷ right ∷ mended ++ p_after ∷ [])) q.block ≡ node_of left
   parent_left = subst (λ (b : ℕ). nodes_of (with_pages st.pages (left ∷ right ∷ mended ++ p_after ∷ [])) b ≡ node_of left) h.left_block
       (node_there (with_pages st.pages (left ∷ right ∷ mended ++ p_after ∷ [])) left.block left
-      (pages_first st.limits (length st.pages) st.pages left (right ∷ mended ++ p_after ∷ []) h.may (omega arith)))
+      (pages_first st.format (length st.pages) st.pages left (right ∷ mended ++ p_after ∷ []) h.may (omega arith)))
 
   parent_right : nodes_of (with_pages st.pages (left ∷ right ∷ mended ++ p_after ∷ [])) right.block ≡ node_of right
   parent_right = node_there (with_pages st.pages (left ∷ right ∷ mended ++ p_after ∷ [])) right.block right
-      (pages_second st.limits (length st.pages) st.pages left right (mended ++ p_after ∷ []) h.may (omega arith))
+      (pages_second st.format (length st.pages) st.pages left right (mended ++ p_after ∷ []) h.may (omega arith))
 
   pub parent_edit : IsParentSplit (nodes_of st.pages) (nodes_of (with_pages st.pages (left ∷ right ∷ mended ++ p_after ∷ []))) p.block q.block right.block
   parent_edit = record {
@@ -182,12 +182,12 @@ module _ (st : State) (start level : ℕ) (s : Bound) (p q p_after left right : 
         (node_there (with_pages st.pages (left ∷ right ∷ mended ++ p_after ∷ [])) p_after.block p_after (last_there st right.block q.right left right p_after mended h.mends h.may))
         ∙ h.clear.after_is ∙ ap (λ (n : Node). cleared n) (sym (p_here st start level s p new has h.unfinished));
     others = λ c not_p not_q not_new not_right. node_same st.pages (with_pages st.pages (left ∷ right ∷ mended ++ p_after ∷ [])) c
-        (pages_other st.limits (length st.pages) st.pages (left ∷ right ∷ mended ++ p_after ∷ []) c h.may (omega arith) (parent_apart c not_p not_q not_new not_right));
+        (pages_other st.format (length st.pages) st.pages (left ∷ right ∷ mended ++ p_after ∷ []) c h.may (omega arith) (parent_apart c not_p not_q not_new not_right));
   }
 
   pub parent_used : length (with_pages st.pages (left ∷ right ∷ mended ++ p_after ∷ [])) ≡ max (length st.pages) (suc right.block)
   parent_used =
-      pages_length st.limits (length st.pages) st.pages (left ∷ right ∷ mended ++ p_after ∷ []) h.may (omega arith)
+      pages_length st.format (length st.pages) st.pages (left ∷ right ∷ mended ++ p_after ∷ []) h.may (omega arith)
       ∙ used_last (max (max (length st.pages) (suc left.block)) (suc right.block)) mended p_after
       ∙ ap (λ (n : ℕ). max n (suc p_after.block)) (mended_used st right.block q.right mended h.mends (max (max (length st.pages) (suc left.block)) (suc right.block)) (omega arith))
       ∙ (let lt = slice_get_within st.pages q.block q h.found in let b = h.left_block in let c = parent_p.inside in let d = h.clear.block_is in omega arith)
@@ -198,7 +198,7 @@ module _ (st : State) (start level : ℕ) (s : Bound) (p q p_after left right : 
   parent_meta : MetaIs (with_pages st.pages (left ∷ right ∷ mended ++ p_after ∷ [])) has.tree.root has.tree.meta.level
   parent_meta = record {
     meta = has.tree.meta;
-    at = pages_other st.limits (length st.pages) st.pages (left ∷ right ∷ mended ++ p_after ∷ []) 0 h.may (omega arith)
+    at = pages_other st.format (length st.pages) st.pages (left ∷ right ∷ mended ++ p_after ∷ []) 0 h.may (omega arith)
         (parent_apart 0 (λ same. (let a = parent_p.above in omega arith)) (λ same. (let a = parent_q.above in omega arith)) (λ same. (let a = parent_free.past_meta in omega arith)) no_right_meta)
         ∙ has.tree.meta_at;
     names = has.tree.names_root;
@@ -231,7 +231,7 @@ module _ (st : State) (start level : ℕ) (s : Bound) (p q p_after left right : 
       (slice_index (after_act (left ∷ right ∷ mended ++ p_after ∷ []) st).counted) (length st.pages) has.tree.root has.tree.meta.level has.tree.chain
       least level p.block q.block right.block s has.tree.is
       parent_q.in_tree parent_edit refl parent_free reusable parent_p.fits parent_q.fits
-      (λ c not_p not_q not_new not_right. counts_other st.limits (length st.pages) st.counted st.pages (left ∷ right ∷ mended ++ p_after ∷ []) c has.counted h.may (omega arith)
+      (λ c not_p not_q not_new not_right. counts_other st.format (length st.pages) st.counted st.pages (left ∷ right ∷ mended ++ p_after ∷ []) c has.counted h.may (omega arith)
       (parent_apart c not_p not_q not_new not_right)))
 
   pub parent_splitting : TreeLasts st (after_act (left ∷ right ∷ mended ++ p_after ∷ []) st) × ContentsStay st (after_act (left ∷ right ∷ mended ++ p_after ∷ []) st)
@@ -244,7 +244,7 @@ module _ (st : State) (start level : ℕ) (s : Bound) (p q p_after left right : 
         (parent_split_holds (nodes_of st.pages) (nodes_of (with_pages st.pages (left ∷ right ∷ mended ++ p_after ∷ []))) (length st.pages) p.block q.block right.block parent_edit parent_free
         (ap (λ (n : Node). n.state) parent_here ∙ h.alive)
         (ap (λ (n : Node). n.entries) parent_here
-        ∙ upper_empty q level (stored_page st.limits q.block st.pages q has.stored h.found).storable.admitted (sym (ap (λ (n : Node). n.level) parent_here) ∙ parent_q.level_is)) x)),
+        ∙ upper_empty q level (stored_page st.format q.block st.pages q has.stored h.found).storable.admitted (sym (ap (λ (n : Node). n.level) parent_here) ∙ parent_q.level_is)) x)),
   )
 
 pub parent_split_lasts : ParentSplitLasts
@@ -281,22 +281,22 @@ module _ (st : State) (start : ℕ) (s : Bound) (meta meta_after p p_after root 
     new = new;
     right_is = ap (λ (n : Node). n.right) (p_here st start meta.level s p new has h.unfinished) ∙ h.unfinished.right_is;
     root_is = node_there (with_pages st.pages (root ∷ meta_after ∷ p_after ∷ [])) root.block root
-        (pages_first st.limits (length st.pages) st.pages root (meta_after ∷ p_after ∷ []) h.may (omega arith))
+        (pages_first st.format (length st.pages) st.pages root (meta_after ∷ p_after ∷ []) h.may (omega arith))
         ∙ subst (λ (k : ℕ). node_of root ≡ new_root (suc k) p.block s new) top_is h.root_is;
     cleared_is = subst (λ (b : ℕ). nodes_of (with_pages st.pages (root ∷ meta_after ∷ p_after ∷ [])) b ≡ node_of p_after) h.clear.block_is
-        (node_there (with_pages st.pages (root ∷ meta_after ∷ p_after ∷ [])) p_after.block p_after (pages_third st.limits (length st.pages) st.pages root meta_after p_after [] h.may (omega arith)))
+        (node_there (with_pages st.pages (root ∷ meta_after ∷ p_after ∷ [])) p_after.block p_after (pages_third st.format (length st.pages) st.pages root meta_after p_after [] h.may (omega arith)))
         ∙ h.clear.after_is ∙ ap (λ (n : Node). cleared n) (sym (p_here st start meta.level s p new has h.unfinished));
     others = λ c above not_p not_new. node_same st.pages (with_pages st.pages (root ∷ meta_after ∷ p_after ∷ [])) c
-        (pages_other st.limits (length st.pages) st.pages (root ∷ meta_after ∷ p_after ∷ []) c h.may (omega arith) (root_apart c above not_p not_new));
+        (pages_other st.format (length st.pages) st.pages (root ∷ meta_after ∷ p_after ∷ []) c h.may (omega arith) (root_apart c above not_p not_new));
   }
 
   pub meta_there : slice_get (with_pages st.pages (root ∷ meta_after ∷ p_after ∷ [])) 0 ≡ Some meta_after
   meta_there = subst (λ (b : ℕ). slice_get (with_pages st.pages (root ∷ meta_after ∷ p_after ∷ [])) b ≡ Some meta_after) h.meta_block
-      (pages_second st.limits (length st.pages) st.pages root meta_after (p_after ∷ []) h.may (omega arith))
+      (pages_second st.format (length st.pages) st.pages root meta_after (p_after ∷ []) h.may (omega arith))
 
   pub root_used : length (with_pages st.pages (root ∷ meta_after ∷ p_after ∷ [])) ≡ max (length st.pages) (suc root.block)
   root_used =
-      pages_length st.limits (length st.pages) st.pages (root ∷ meta_after ∷ p_after ∷ []) h.may (omega arith)
+      pages_length st.format (length st.pages) st.pages (root ∷ meta_after ∷ p_after ∷ []) h.may (omega arith)
       ∙ (let a = root_p.inside in let b = h.meta_block in let d = h.clear.block_is in omega arith)
 
   root_meta : MetaIs (with_pages st.pages (root ∷ meta_after ∷ p_after ∷ [])) root.block (suc has.tree.meta.level)
@@ -327,7 +327,7 @@ module _ (st : State) (start : ℕ) (s : Bound) (meta meta_after p p_after root 
       (slice_index (after_act (root ∷ meta_after ∷ p_after ∷ []) st).counted) (length st.pages) p.block has.tree.meta.level root.block has.tree.chain least
       (subst (λ (r : ℕ). IsTreeOf (nodes_of st.pages) (length st.pages) r has.tree.meta.level has.tree.chain) (sym p_is_root) has.tree.is)
       root_edit root_free reusable (λ gone. clash (sym (meta_lives st has) ∙ ap (λ (o : Option Page). (node_from o).state) (sym has.tree.meta_at) ∙ gone))
-      (λ c above not_p not_new. counts_other st.limits (length st.pages) st.counted st.pages (root ∷ meta_after ∷ p_after ∷ []) c has.counted h.may (omega arith) (root_apart c above not_p not_new)))
+      (λ c above not_p not_new. counts_other st.format (length st.pages) st.counted st.pages (root ∷ meta_after ∷ p_after ∷ []) c has.counted h.may (omega arith) (root_apart c above not_p not_new)))
 
   pub root_splitting : TreeLasts st (after_act (root ∷ meta_after ∷ p_after ∷ []) st) × ContentsStay st (after_act (root ∷ meta_after ∷ p_after ∷ []) st)
   root_splitting = (

@@ -53,12 +53,12 @@ all_from : (P : Page → Type 0) (pages : List Page) → ((b : ℕ) (page : Page
 all_from P [] h = tt
 all_from P (page ∷ pages) h = (h 0 page refl, all_from P pages (λ b other found. h (suc b) other found))
 
-module _ (limits : Format) (pages : List Page) (stored : AreStored limits 0 pages) (keyed : AreKeyed pages) where
+module _ (format : Format) (pages : List Page) (stored : AreStored format 0 pages) (keyed : AreKeyed pages) where
   unique_page : (b : ℕ) (page : Page) → slice_get pages b ≡ Some page → IsUniquePage page
   unique_page b page found = record {
     high = subst (λ (o : Option Page). IfSome (node_from o).high (λ s. s.row ≡ None)) found (keyed.high b);
     bounds = subst (λ (o : Option Page). AllByRecursion (λ d. IfSome d.bound (λ (s : Bound). s.row ≡ None)) (node_from o).links) found (keyed.bounds b);
-    keys = item_keys page page.items (stored_page limits b pages page stored found).storable.admitted.kind differ;
+    keys = item_keys page page.items (stored_page format b pages page stored found).storable.admitted.kind differ;
   }
     where
       on : (x : Entry) → is_among (entries_alive page.state (entries_of page.items)) x ≡ true → entry_on_live_leaf pages x ≡ true
@@ -74,12 +74,12 @@ module _ (limits : Format) (pages : List Page) (stored : AreStored limits 0 page
   pub unique_of : AreUnique pages
   unique_of = all_from IsUniquePage pages unique_page
 
-pub keyed_of : (limits : Format) (pages : List Page) → IsTree pages → AreStored limits 0 pages → AreUnique pages → AreKeyed pages
-keyed_of limits pages tree stored unique = record {
+pub keyed_of : (format : Format) (pages : List Page) → IsTree pages → AreStored format 0 pages → AreUnique pages → AreKeyed pages
+keyed_of format pages tree stored unique = record {
   high = λ b. (unique_at pages unique b).high;
   bounds = λ b. (unique_at pages unique b).bounds;
-  keys = unique_shows limits pages tree stored unique;
+  keys = unique_shows format pages tree stored unique;
 }
 
 pub keyed_shows : KeyedShows
-keyed_shows limits pages tree stored = (keyed_of limits pages tree stored, unique_of limits pages stored)
+keyed_shows format pages tree stored = (keyed_of format pages tree stored, unique_of format pages stored)

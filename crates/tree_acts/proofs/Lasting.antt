@@ -10,18 +10,18 @@ use Rattle.tree_acts.proofs.Lows.{lows_of}
 use Rattle.tree_acts.proofs.Overlays.{page_length}
 use Rattle.tree_acts.proofs.Words.{place_in, trail_in}
 
-pub stored_after : (limits : Format) (used : ℕ) (pages changed : List Page) → AreActable limits used changed → used ≤ length pages
-    → AreStored limits 0 pages → AreStored limits 0 (with_pages pages changed)
-stored_after limits used pages [] h le stored = stored
-stored_after limits used pages (page ∷ changed) h le stored =
+pub stored_after : (format : Format) (used : ℕ) (pages changed : List Page) → AreActable format used changed → used ≤ length pages
+    → AreStored format 0 pages → AreStored format 0 (with_pages pages changed)
+stored_after format used pages [] h le stored = stored
+stored_after format used pages (page ∷ changed) h le stored =
     let place : page.block ≤ length pages = omega (arith, h.1.0) in
     let longer = page_length pages page place in
-    stored_after limits used (with_page pages page) changed h.3 (omega arith) (stored-with_page limits pages page h.0.storable place stored)
+    stored_after format used (with_page pages page) changed h.3 (omega arith) (stored-with_page format pages page h.0.storable place stored)
 
 -- the metapage of a tree is live
 pub meta_lives : (st : State) (h : HasTree st) → h.tree.meta.state ≡ Live
 meta_lives st h =
-    let s = stored_page st.limits 0 st.pages h.tree.meta h.stored h.tree.meta_at in
+    let s = stored_page st.format 0 st.pages h.tree.meta h.stored h.tree.meta_at in
     let kind : IsMeta h.tree.meta = subst (IsOfKind h.tree.meta) h.tree.names_root.kind s.storable.admitted.kind in
     kind.state
 
@@ -180,8 +180,8 @@ pub unique_after : (pages changed : List Page) → AreUnique pages → AreUnique
 unique_after pages [] h c = h
 unique_after pages (page ∷ changed) h c = unique_after (with_page pages page) changed (unique_with pages page h c.0) c.1
 
-pub lasts : (st : State) (changed : List Page) (h : HasTree st) → AreActable st.limits (length st.pages) changed
-    → (st.limits.unique ≡ true → AreUnique changed) → NoneIsDeleted changed → (Ok : ℕ → Type 0) (one : ℕ) → Ok one → ((start : ℕ) → IsStart st.running start → Ok start)
+pub lasts : (st : State) (changed : List Page) (h : HasTree st) → AreActable st.format (length st.pages) changed
+    → (st.format.unique ≡ true → AreUnique changed) → NoneIsDeleted changed → (Ok : ℕ → Type 0) (one : ℕ) → Ok one → ((start : ℕ) → IsStart st.running start → Ok start)
     → (root' top' : ℕ) → h.tree.meta.level ≤ top' → MetaIs (with_pages st.pages changed) root' top'
     → ((least : ℕ) → Ok least → IsTreeAgain (nodes_of st.pages) (nodes_of (with_pages st.pages changed)) (slice_index st.counted) (slice_index (after_act changed st).counted)
     (length (with_pages st.pages changed)) root' h.tree.meta.level top' h.tree.chain least)
@@ -189,7 +189,7 @@ pub lasts : (st : State) (changed : List Page) (h : HasTree st) → AreActable s
 lasts st changed h may one_a_key live Ok one ok running root' top' taller meta goes = record {
   has = record {
     tree = tree_of one ok;
-    stored = stored_after st.limits (length st.pages) st.pages changed may (omega arith) h.stored;
+    stored = stored_after st.format (length st.pages) st.pages changed may (omega arith) h.stored;
     counted = length-with_counts st.counted st.pages changed h.counted;
     within = counts_within st changed h.counted may (in_use_count st.begun changed live) h.within;
     lead = gone_lead_on st changed h.counted may live h.lead;
@@ -234,8 +234,8 @@ lasts st changed h may one_a_key live Ok one ok running root' top' taller meta g
 
 -- ... also if a page of a chain is deleted, later than each running call began; lows are as they are
 -- whichever numbers count
-pub lasts_without : (st : State) (changed : List Page) (h : HasTree st) → AreActable st.limits (length st.pages) changed
-    → (st.limits.unique ≡ true → AreUnique changed) → CountUpTo st.begun changed → KeptDeletedLeadOn (after_act changed st)
+pub lasts_without : (st : State) (changed : List Page) (h : HasTree st) → AreActable st.format (length st.pages) changed
+    → (st.format.unique ≡ true → AreUnique changed) → CountUpTo st.begun changed → KeptDeletedLeadOn (after_act changed st)
     → (late : ℕ) → ((start : ℕ) → IsStart st.running start → start < late)
     → MetaIs (with_pages st.pages changed) h.tree.root h.tree.meta.level
     → IsTreeAgainWithout (nodes_of st.pages) (nodes_of (with_pages st.pages changed)) (slice_index st.counted) (slice_index (after_act changed st).counted)
@@ -246,7 +246,7 @@ pub lasts_without : (st : State) (changed : List Page) (h : HasTree st) → AreA
 lasts_without st changed h may one_a_key few leads late running meta goes lower = record {
   has = record {
     tree = tree';
-    stored = stored_after st.limits (length st.pages) st.pages changed may (omega arith) h.stored;
+    stored = stored_after st.format (length st.pages) st.pages changed may (omega arith) h.stored;
     counted = length-with_counts st.counted st.pages changed h.counted;
     within = counts_within st changed h.counted may few h.within;
     lead = leads;

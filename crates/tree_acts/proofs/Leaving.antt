@@ -21,13 +21,13 @@ pub record StandsAfterWrites (P : Page → Type 0) (pages : List Page) (b : ℕ)
   pub block : page.block ≡ b
   pub there : slice_get pages b ≡ Some page
 
-pub written_or : (P : Page → Type 0) (limits : Format) (used : ℕ) (pages changed : List Page) (b : ℕ) → AreActable limits used changed → used ≤ length pages → EachPage P changed
+pub written_or : (P : Page → Type 0) (format : Format) (used : ℕ) (pages changed : List Page) (b : ℕ) → AreActable format used changed → used ≤ length pages → EachPage P changed
     → (slice_get (with_pages pages changed) b ≡ slice_get pages b) ⊎ StandsAfterWrites P (with_pages pages changed) b
-written_or P limits used pages [] b may le each = inl refl
-written_or P limits used pages (x ∷ changed) b may le each =
+written_or P format used pages [] b may le each = inl refl
+written_or P format used pages (x ∷ changed) b may le each =
     let place : x.block ≤ length pages = omega (arith, may.1.0, le) in
     let longer = page_length pages x place in
-    elim (written_or P limits used (with_page pages x) changed b may.3 (omega (arith, longer, le)) each.1) [
+    elim (written_or P format used (with_page pages x) changed b may.3 (omega (arith, longer, le)) each.1) [
       | inr later ↦ inr later
       | inl same ↦ elim (cases_eq x.block b) [
         | inl is ↦ inr (record { page = x; is = each.0; block = is; there = same ∙ subst (λ (k : ℕ). slice_get (with_page pages x) k ≡ Some x) is (page_there pages x place) })
@@ -97,17 +97,17 @@ module _ (effect : Option Effect) (st : State) where
   was_itself pages b new same at = record { page = new; was = record { found = sym same ∙ at.found; alive = at.alive; leaf = at.leaf } }
 
   -- an act that splits no leaf
-  keeps_leaves : (changed : List Page) → AreActable st.limits (length st.pages) changed → EachPage (KeepsLeaf effect st) changed → LeafPagesStay effect st (after_act changed st)
+  keeps_leaves : (changed : List Page) → AreActable st.format (length st.pages) changed → EachPage (KeepsLeaf effect st) changed → LeafPagesStay effect st (after_act changed st)
   keeps_leaves changed may each = record {
     cycle = refl;
-    each = λ b old at. elim (written_or (KeepsLeaf effect st) st.limits (length st.pages) st.pages changed b may (omega arith) each) [
+    each = λ b old at. elim (written_or (KeepsLeaf effect st) st.format (length st.pages) st.pages changed b may (omega arith) each) [
       | inl same ↦ goes_on_itself st.cycle (with_pages st.pages changed) b old same at
       | inr w ↦ elim w.is [
         | inl alike ↦ alike_goes_on st.cycle (with_pages st.pages changed) b old w.page alike w.block w.there at
         | inr none ↦ absurd (none.was old (subst (λ (k : ℕ). IsLeafAt st.pages k old) (sym w.block) at))
       ]
     ];
-    others = λ b new at. elim (written_or (KeepsLeaf effect st) st.limits (length st.pages) st.pages changed b may (omega arith) each) [
+    others = λ b new at. elim (written_or (KeepsLeaf effect st) st.format (length st.pages) st.pages changed b may (omega arith) each) [
       | inl same ↦ inl (was_itself (with_pages st.pages changed) b new same at)
       | inr w ↦ elim w.is [
         | inl alike ↦ inl (alike_was (with_pages st.pages changed) b new w.page alike w.block w.there at)
@@ -196,7 +196,7 @@ putting_leaves st start e page after has h = keeps_leaves (Some (Add e)) st (aft
     on = stands st has.tree start 0 (entry_aim e) true page.block h.place (ap (λ (n : Node). n.state) (node_there st.pages page.block page h.found) ∙ h.alive)
 
     old_leaf : HasEntries page.items
-    old_leaf = ground_leaf page (stored_page st.limits page.block st.pages page has.stored h.found).storable.admitted h.leaf on.above
+    old_leaf = ground_leaf page (stored_page st.format page.block st.pages page has.stored h.found).storable.admitted h.leaf on.above
 
 pub removing_leaves : RemovingLeaves
 removing_leaves st keeps page after es has h = keeps_leaves (Some (Remove es)) st (after ∷ []) h.may (
@@ -269,19 +269,19 @@ module _ (st : State) (start : ℕ) (e : Entry) (page left right : Page) (mended
   split_on = stands st has.tree start 0 (entry_aim e) true page.block h.place (ap (λ (n : Node). n.state) (node_there st.pages page.block page h.found) ∙ h.alive)
 
   page_leaf : IsLeafAt st.pages page.block page
-  page_leaf = record { found = h.found; alive = h.alive; leaf = ground_leaf page (stored_page st.limits page.block st.pages page has.stored h.found).storable.admitted h.leaf split_on.above }
+  page_leaf = record { found = h.found; alive = h.alive; leaf = ground_leaf page (stored_page st.format page.block st.pages page has.stored h.found).storable.admitted h.leaf split_on.above }
 
   left_leaf : IsLeafAt (with_pages st.pages (left ∷ right ∷ mended)) page.block left
   left_leaf = record {
     found = subst (λ (k : ℕ). slice_get (with_pages st.pages (left ∷ right ∷ mended)) k ≡ Some left) h.left_block
-        (pages_first st.limits (length st.pages) st.pages left (right ∷ mended) h.may (omega arith));
+        (pages_first st.format (length st.pages) st.pages left (right ∷ mended) h.may (omega arith));
     alive = ap (λ (n : Node). n.state) h.halves.left_is;
     leaf = ground_leaf left h.may.0.storable.admitted (ap (λ (n : Node). n.level) h.halves.left_is ∙ h.leaf) (subst (λ (b : ℕ). 0 < b) (sym h.left_block) split_on.above);
   }
 
   right_leaf : IsLeafAt (with_pages st.pages (left ∷ right ∷ mended)) right.block right
   right_leaf = record {
-    found = pages_second st.limits (length st.pages) st.pages left right mended h.may (omega arith);
+    found = pages_second st.format (length st.pages) st.pages left right mended h.may (omega arith);
     alive = ap (λ (n : Node). n.state) h.halves.right_is;
     leaf = ground_leaf right h.may.3.0.storable.admitted (ap (λ (n : Node). n.level) h.halves.right_is ∙ h.leaf) (fresh_free st right.block has h.fresh).past_meta;
   }
@@ -309,7 +309,7 @@ module _ (st : State) (start : ℕ) (e : Entry) (page left right : Page) (mended
   each = (inr (inl refl), (inr (inr refl), either_half st e left right mended (mended_keeps (Some (Add e)) st right.block page.right mended h.mends)))
 
   written : (b : ℕ) → (slice_get (with_pages st.pages (left ∷ right ∷ mended)) b ≡ slice_get st.pages b) ⊎ StandsAfterWrites (IsHalfOr st e left right) (with_pages st.pages (left ∷ right ∷ mended)) b
-  written b = written_or (IsHalfOr st e left right) st.limits (length st.pages) st.pages (left ∷ right ∷ mended) b h.may (omega arith) each
+  written b = written_or (IsHalfOr st e left right) st.format (length st.pages) st.pages (left ∷ right ∷ mended) b h.may (omega arith) each
 
   pub splitting_leaves : LeafPagesStay (Some (Add e)) st (after_act (left ∷ right ∷ mended) st)
   unfolding halved

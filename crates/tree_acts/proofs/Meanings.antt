@@ -72,7 +72,7 @@ pub leaf_shows : LeafShows
 leaf_shows st e page h found cover =
     let here = node_there st.pages page.block page found in
     let c = cover_in st h.tree 0 (entry_aim e) page.block cover in
-    let held = held_on_its_cover (nodes_of st.pages) (length st.pages) h.tree.root h.tree.meta.level h.tree.chain e page.block h.tree.is (only_leaves st.limits st.pages h.stored) c.covers in
+    let held = held_on_its_cover (nodes_of st.pages) (length st.pages) h.tree.root h.tree.meta.level h.tree.chain e page.block h.tree.is (only_leaves st.format st.pages h.stored) c.covers in
     same_test (entry_on_live_leaf st.pages e) (is_among (entries_of page.items) e)
     (λ t. sym (ap (λ (n : Node). is_among n.entries e) here) ∙ held.0 ((contents_held st.pages e).0 t))
     (λ t. (contents_held st.pages e).1 (held.1 (ap (λ (n : Node). is_among n.entries e) here ∙ t)))
@@ -163,7 +163,7 @@ trail_is_short_here st start level block moves h trail =
 -- what is fit for an aim is fit for one that looks farther
 wider : (aim farther : Bound → Bool) (clear clear' : Bool) (s : LeftContext) → ((b : Bound) → aim b ≡ true → farther b ≡ true) → (clear' ≡ true → clear ≡ true)
     → is_fit aim clear s ≡ true → is_fit farther clear' s ≡ true
-wider aim farther clear clear' s more eased fit = go clear clear' s.behind s.low eased fit
+wider aim farther clear clear' s more eased fit = go clear clear' s.left_is_split s.low eased fit
   where
     low : (l : Option Bound) → is_beyond aim l ≡ true → is_beyond farther l ≡ true
     low None p = refl
@@ -196,7 +196,7 @@ own_high : (at : ℕ → Node) (level : ℕ) (s : LeftContext) (xs : List ℕ) (
     → IsFitOn at s xs (is_fit aim clear) b → IsFitOn at s xs (is_fit (bound_aim high) clear) b
 own_high at level s [] aim clear b high run alive is i = absurd i
 own_high at level s (x ∷ xs) aim clear b high run alive is (inr i) = inr (own_high at level (past x (at x) s) xs aim clear b high run.1 alive is i)
-own_high at level s (x ∷ xs) aim clear b high run alive is (inl h) = inl (h.0, go clear s.behind s.low (below s.low rises) h.1)
+own_high at level s (x ∷ xs) aim clear b high run alive is (inl h) = inl (h.0, go clear s.left_is_split s.low (below s.low rises) h.1)
   where
     fits : FitsState Live level s (at x)
     fits = subst (λ (st : PageState). FitsState st level s (at x)) (subst (λ (c : ℕ). (at c).state ≡ Live) (h.0) alive) run.0.fits
@@ -234,7 +234,7 @@ page_within (page ∷ pages) (suc b) lt = page_within pages b (omega arith)
 -- a stored page of another block than 0 isn't the metapage
 no_meta_above : (st : State) (h : HasTree st) (block : ℕ) (page : Page) → slice_get st.pages block ≡ Some page → 0 < block → page.items ≢ Meta
 no_meta_above st h block page found above is =
-    let s = stored_page st.limits block st.pages page h.stored found in
+    let s = stored_page st.format block st.pages page h.stored found in
     let kind : IsMeta page = subst (IsOfKind page) is s.storable.admitted.kind in
     let zero_is : block ≡ 0 = sym s.block_is ∙ kind.block in
     omega arith

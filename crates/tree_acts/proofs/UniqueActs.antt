@@ -10,14 +10,14 @@ use Rattle.tree_acts.proofs.Imports.{RootIsSplit}
 pub seen_alike : (page : Page) (node : Node) → node_of page ≡ node → IsUniqueNode node → IsUniquePage page
 seen_alike page node is h = subst (λ (n : Node). IsUniqueNode n) (sym is) h
 
-pub put_unique : (st : State) (start : ℕ) (e : Entry) (page after : Page) → HasTree st → EntryIsPut st start e page after → st.limits.unique ≡ true → AreUnique (after ∷ [])
+pub put_unique : (st : State) (start : ℕ) (e : Entry) (page after : Page) → HasTree st → EntryIsPut st start e page after → st.format.unique ≡ true → AreUnique (after ∷ [])
 put_unique st start e page after has h asked = (
   seen_alike after _ h.after_is
       (unique_put (node_of page) e (entries_of after.items) (unique_page st.pages page.block page (has.unique asked) h.found) h.put (h.alone asked)),
   tt,
 )
 
-pub removal_unique : (st : State) (keeps : Entry → Bool) (page after : Page) → HasTree st → EntriesAreRemoved st keeps page after → st.limits.unique ≡ true → AreUnique (after ∷ [])
+pub removal_unique : (st : State) (keeps : Entry → Bool) (page after : Page) → HasTree st → EntriesAreRemoved st keeps page after → st.format.unique ≡ true → AreUnique (after ∷ [])
 removal_unique st keeps page after has h asked =
     let old : IsUniquePage page = unique_page st.pages page.block page (has.unique asked) h.found in
     (subst (λ (p : Page). IsUniquePage p) (sym h.after_is) (record { high = old.high; bounds = tt; keys = keys_filter keeps (entries_of page.items) old.keys }), tt)
@@ -30,7 +30,7 @@ mended_unique st new right mended all (neighbour {r = r} old after found block o
     (subst (λ (p : Page). IsUniquePage p) (sym only) (record { high = was.high; bounds = was.bounds; keys = was.keys }), tt)
 
 pub leaf_split_unique : (st : State) (start : ℕ) (e : Entry) (page left right : Page) (mended : List Page) → HasTree st → LeafIsSplit st start e page left right mended
-    → st.limits.unique ≡ true → AreUnique (left ∷ right ∷ mended)
+    → st.format.unique ≡ true → AreUnique (left ∷ right ∷ mended)
 leaf_split_unique st start e page left right mended has h asked =
     let both = unique_halves (node_of page) (node_of left) (node_of right) page.block right.block e
     (unique_page st.pages page.block page (has.unique asked) h.found) (h.alone asked) h.halves (h.cut asked) in
@@ -48,7 +48,7 @@ module _ (st : State) (start level : ℕ) (s : Bound) (p after : Page) (new : �
   clear_unique clear = subst (λ (q : Page). IsUniquePage q) (sym clear.only) (record { high = was.high; bounds = was.bounds; keys = was.keys })
 
 pub finish_unique : (st : State) (start level : ℕ) (s : Bound) (p q p_after q_after : Page) (new : ℕ) → HasTree st → SplitIsFinished st start level s p q p_after q_after new
-    → st.limits.unique ≡ true → AreUnique (q_after ∷ p_after ∷ [])
+    → st.format.unique ≡ true → AreUnique (q_after ∷ p_after ∷ [])
 finish_unique st start level s p q p_after q_after new has h asked =
     let all : AreUnique st.pages = has.unique asked in
     let parent : IsUniquePage q = unique_page st.pages q.block q all h.found in
@@ -58,7 +58,7 @@ finish_unique st start level s p q p_after q_after new has h asked =
     )
 
 pub parent_split_unique : (st : State) (start level : ℕ) (s : Bound) (p q p_after left right : Page) (mended : List Page) (new : ℕ) → HasTree st
-    → ParentIsSplit st start level s p q p_after left right mended new → st.limits.unique ≡ true → AreUnique (left ∷ right ∷ mended ++ p_after ∷ [])
+    → ParentIsSplit st start level s p q p_after left right mended new → st.format.unique ≡ true → AreUnique (left ∷ right ∷ mended ++ p_after ∷ [])
 parent_split_unique st start level s p q p_after left right mended new has h asked =
     let all : AreUnique st.pages = has.unique asked in
     let parent : IsUniquePage q = unique_page st.pages q.block q all h.found in
@@ -78,7 +78,7 @@ no_high None none = tt
 no_high (Some b) none = absurd cc
 
 pub root_split_unique : (st : State) (start : ℕ) (s : Bound) (meta meta_after p p_after root : Page) (new : ℕ) → HasTree st
-    → RootIsSplit st start s meta meta_after p p_after root new → st.limits.unique ≡ true → AreUnique (root ∷ meta_after ∷ p_after ∷ [])
+    → RootIsSplit st start s meta meta_after p p_after root new → st.format.unique ≡ true → AreUnique (root ∷ meta_after ∷ p_after ∷ [])
 root_split_unique st start s meta meta_after p p_after root new has h asked =
     let all : AreUnique st.pages = has.unique asked in
     let kind : IsMeta meta_after = subst (IsOfKind meta_after) h.meta_is.kind h.may.3.0.storable.admitted.kind in (

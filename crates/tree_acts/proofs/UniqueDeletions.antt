@@ -5,7 +5,7 @@ use Rattle.tree_acts.specs.Deletions.{LeafIsHalfDead, IsLinkedTo, leftmost, neig
 use Rattle.tree_acts.proofs.UniqueActs.{seen_alike}
 
 pub half_death_unique : (st : State) (leaf right parent leaf_after parent_after : Page) → HasTree st → LeafIsHalfDead st leaf right parent leaf_after parent_after
-    → st.limits.unique ≡ true → AreUnique (leaf_after ∷ parent_after ∷ [])
+    → st.format.unique ≡ true → AreUnique (leaf_after ∷ parent_after ∷ [])
 half_death_unique st leaf right parent leaf_after parent_after has h asked =
     let all : AreUnique st.pages = has.unique asked in
     let old : IsUniquePage leaf = unique_page st.pages leaf.block leaf all h.found in
@@ -27,7 +27,7 @@ linked_unique st right left mended all (neighbour {l = l} old after found block 
     (subst (λ (p : Page). IsUniquePage p) (sym only) (record { high = was.high; bounds = was.bounds; keys = was.keys }), tt)
 
 pub unlink_unique : (st : State) (page right after right_after : Page) (mended : List Page) → HasTree st → PageIsUnlinked st page right after right_after mended
-    → st.limits.unique ≡ true → AreUnique (mended ++ after ∷ right_after ∷ [])
+    → st.format.unique ≡ true → AreUnique (mended ++ after ∷ right_after ∷ [])
 unlink_unique st page right after right_after mended has h asked =
     let all : AreUnique st.pages = has.unique asked in
     let old : IsUniquePage right = unique_page st.pages right.block right all h.right_found in

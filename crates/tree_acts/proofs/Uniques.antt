@@ -34,8 +34,8 @@ free_key_shows st e x page h asked found cover free same =
     key_shows st e x page h asked found cover same ∙ not_among e.key (entries_of page.items) x free same
 
 pub unique_shows : UniqueShows
-unique_shows limits pages tree stored unique x y on_x on_y same =
-    let only = only_leaves limits pages stored in
+unique_shows format pages tree stored unique x y on_x on_y same =
+    let only = only_leaves format pages stored in
     let held = (contents_held pages x).0 on_x in
     let covers = held_covered (nodes_of pages) (length pages) tree.root tree.meta.level tree.chain x tree.is only held.block held.in_use held.on in
     let covers_y = key_covers (nodes_of pages) (tree.chain 0) x y held.block (λ b i. (unique_at pages unique b).high) same covers in

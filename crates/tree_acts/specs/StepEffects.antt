@@ -96,7 +96,7 @@ pub record StepEffect (session : ℕ) (effect : Option Effect) (old new : State)
   pub changes : HasEffect effect old new
   pub flags : MovesFlags effect old new
   pub leaves : LeafPagesStay effect old new
-  pub limits : new.limits ≡ old.limits
+  pub format : new.format ≡ old.format
   pub frames : new.frames ≡ old.frames
   pub begun : new.begun ≡ old.begun
   pub running : new.running ≡ old.running
@@ -125,7 +125,7 @@ pub record CleanupEffect (session : ℕ) (effect : Option Effect) (old new : Sta
   pub changes : HasEffect effect old new
   pub deletes : DeletesLeaves effect old new
   pub cycle : new.cycle ≡ old.cycle
-  pub limits : new.limits ≡ old.limits
+  pub format : new.format ≡ old.format
   pub frames : new.frames ≡ old.frames
   pub begun : new.begun ≡ old.begun
   pub running : new.running ≡ old.running
@@ -137,7 +137,7 @@ pub record CleanupEffect (session : ℕ) (effect : Option Effect) (old new : Sta
 pub record IsOneActAtMost (old new : State) : Type 0 where
   pub acts : (new.acts ≡ old.acts) ⊎ (new.acts ≡ suc old.acts)
   pub quiet : new.acts ≡ old.acts → new ≡ with_table old new.table
-  pub limits : new.limits ≡ old.limits
+  pub format : new.format ≡ old.format
   pub frames : new.frames ≡ old.frames
   pub begun : new.begun ≡ old.begun
   pub running : new.running ≡ old.running
@@ -150,7 +150,7 @@ any_is_reusable st (suc block) = is_reusable st block || any_is_reusable st bloc
 -- no block is unused, and none may be used again
 abbrev pub is_out_of_blocks : State → Bool
 is_out_of_blocks st =
-    nat_le st.limits.pages (length st.pages) && not (any_is_reusable st (length st.pages))
+    nat_le st.format.pages (length st.pages) && not (any_is_reusable st (length st.pages))
 
 -- the first number below this one that is so, or else this one
 abbrev pub first_below : (ℕ → Bool) → ℕ → ℕ

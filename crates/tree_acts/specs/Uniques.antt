@@ -20,7 +20,7 @@ use Rattle.tree_acts.specs.Trees.{HasTree, HasCover}
 abbrev pub KeyShows : Type 0
 KeyShows =
     (st : State) (e x : Entry) (page : Page)
-    → HasTree st → st.limits.unique ≡ true → slice_get st.pages page.block ≡ Some page
+    → HasTree st → st.format.unique ≡ true → slice_get st.pages page.block ≡ Some page
     → HasCover st 0 (entry_aim e) page.block → x.key ≡ e.key
     → entry_on_live_leaf st.pages x ≡ is_among (entries_of page.items) x
 
@@ -28,19 +28,19 @@ KeyShows =
 abbrev pub FreeKeyShows : Type 0
 FreeKeyShows =
     (st : State) (e x : Entry) (page : Page)
-    → HasTree st → st.limits.unique ≡ true → slice_get st.pages page.block ≡ Some page
+    → HasTree st → st.format.unique ≡ true → slice_get st.pages page.block ≡ Some page
     → HasCover st 0 (entry_aim e) page.block → IsKeyFree e.key (entries_of page.items)
     → x.key ≡ e.key → entry_on_live_leaf st.pages x ≡ false
 
 -- if the pages of a tree are those of a unique index, no two of its entries share a key
 abbrev pub UniqueShows : Type 0
 UniqueShows =
-    (limits : Format) (pages : List Page) → IsTree pages → AreStored limits 0 pages
+    (format : Format) (pages : List Page) → IsTree pages → AreStored format 0 pages
     → AreUnique pages → KeysDiffer (entry_on_live_leaf pages)
 
 -- ... so that pages of a unique index by themselves are keyed, and if pages are keyed each of them is one
 -- of a unique index
 abbrev pub KeyedShows : Type 0
 KeyedShows =
-    (limits : Format) (pages : List Page) → IsTree pages → AreStored limits 0 pages
+    (format : Format) (pages : List Page) → IsTree pages → AreStored format 0 pages
     → (AreUnique pages ↔ AreKeyed pages)

@@ -138,12 +138,12 @@ unique_links node links h bounds = record { high = h.high; bounds = bounds; keys
 -- ... and with one handed on
 pub bounds_handed : (n right : ℕ) (links after : List Downlink) → IsLinkHandedOn n right links after → AllByRecursion IsKeyLink links → AllByRecursion IsKeyLink after
 bounds_handed n right links after handed h =
-    let old : List Downlink = link handed.bound n ∷ link handed.own right ∷ handed.behind in
+    let old : List Downlink = link handed.bound n ∷ link handed.own right ∷ handed.later in
     let parts : AllByRecursion IsKeyLink (handed.before ++ old) = subst (λ (l : List Downlink). AllByRecursion IsKeyLink l) handed.links_are h in
     let front : AllByRecursion IsKeyLink handed.before = AllByRecursion-front IsKeyLink handed.before old parts in
     let back : AllByRecursion IsKeyLink old = AllByRecursion-back IsKeyLink handed.before old parts in
     subst (λ (l : List Downlink). AllByRecursion IsKeyLink l) (sym handed.after_are)
-    (AllByRecursion-append IsKeyLink handed.before (link handed.bound right ∷ handed.behind) front (back.0, back.1.1))
+    (AllByRecursion-append IsKeyLink handed.before (link handed.bound right ∷ handed.later) front (back.0, back.1.1))
 
 -- both halves of an internal page
 pub unique_parts : (node left right : Node) (q new : ℕ) (links : List Downlink) → IsUniqueNode node → AllByRecursion IsKeyLink links → LinkHalves node q new links left right
@@ -153,17 +153,17 @@ unique_parts node left right q new links h bounds halves = (
   subst (λ (n : Node). IsUniqueNode n) (sym halves.right_is) (record { high = h.high; bounds = (tt, back.1); keys = h.keys }),
 )
   where
-    behind : List Downlink
-    behind = link (Some halves.cut) halves.middle ∷ halves.back
+    right_part : List Downlink
+    right_part = link (Some halves.cut) halves.middle ∷ halves.back
 
-    parts : AllByRecursion IsKeyLink ((halves.first ∷ halves.front) ++ behind)
+    parts : AllByRecursion IsKeyLink ((halves.first ∷ halves.front) ++ right_part)
     parts = subst (λ (l : List Downlink). AllByRecursion IsKeyLink l) halves.links_are bounds
 
     front : AllByRecursion IsKeyLink (halves.first ∷ halves.front)
-    front = AllByRecursion-front IsKeyLink (halves.first ∷ halves.front) behind parts
+    front = AllByRecursion-front IsKeyLink (halves.first ∷ halves.front) right_part parts
 
-    back : AllByRecursion IsKeyLink behind
-    back = AllByRecursion-back IsKeyLink (halves.first ∷ halves.front) behind parts
+    back : AllByRecursion IsKeyLink right_part
+    back = AllByRecursion-back IsKeyLink (halves.first ∷ halves.front) right_part parts
 
 -- a new root
 pub unique_root : (level p new : ℕ) (s : Bound) → IsKeyBound s → IsUniqueNode (new_root level p s new)

@@ -19,9 +19,9 @@ pub apart_keys : (a b : Entry) → KeyBefore a b → a.key ≡ b.key → ⊥
 apart_keys a b p same = true≢false (sym (subst (λ (k : List ℕ). is_lt (key_cmp a.key k) ≡ true) (sym same) p) ∙ rw (tied_itself nat_list_cmp_total a.key) refl)
 
 -- what follows an entry has a greater key
-behind : (a : Entry) (es : List Entry) (y : Entry) → FollowedBy KeyBefore a es → is_among es y ≡ true → KeyBefore a y
-behind a [] y h i = absurd cc
-behind a (e ∷ es) y h i = go (behind e es y h.1) (same_entry e y) refl i
+each_follows : (a : Entry) (es : List Entry) (y : Entry) → FollowedBy KeyBefore a es → is_among es y ≡ true → KeyBefore a y
+each_follows a [] y h i = absurd cc
+each_follows a (e ∷ es) y h i = go (each_follows e es y h.1) (same_entry e y) refl i
   where
     go : (is_among es y ≡ true → KeyBefore e y) → (w : Bool) → same_entry e y ≡ w → is_among (e ∷ es) y ≡ true → KeyBefore a y
     go rest true same i = subst (λ (z : Entry). KeyBefore a z) (same_entry-is e y same) h.0
@@ -41,9 +41,9 @@ one_of_a_key (e ∷ es) x y h i j same = go (one_of_a_key es x y (tail_ascends e
         → is_among (e ∷ es) x ≡ true → is_among (e ∷ es) y ≡ true → x ≡ y
     go rest true true p q i j = sym (same_entry-is e x p) ∙ same_entry-is e y q
     go rest true false p q i j =
-        let far : KeyBefore e y = behind e es y h (rw q at j) in
+        let far : KeyBefore e y = each_follows e es y h (rw q at j) in
         absurd (apart_keys e y far (ap (λ (z : Entry). z.key) (same_entry-is e x p) ∙ same))
     go rest false true p q i j =
-        let far : KeyBefore e x = behind e es x h (rw p at i) in
+        let far : KeyBefore e x = each_follows e es x h (rw p at i) in
         absurd (apart_keys e x far (ap (λ (z : Entry). z.key) (same_entry-is e y q) ∙ sym same))
     go rest false false p q i j = rest (rw p at i) (rw q at j) same

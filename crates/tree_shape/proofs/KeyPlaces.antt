@@ -12,8 +12,8 @@ keys_total = nat_list_cmp_total
 between_keys : (a b c : Entry) → is_past (bound_of a) b ≡ true → is_past (bound_of b) c ≡ true → a.key ≡ c.key → a.key ≡ b.key
 between_keys a b c p q same = by (key_cmp a.key b.key) refl p
   where
-    behind : is_lt (ordering_then (key_cmp b.key a.key) (option_cmp row_cmp (Some b.row) (Some c.row))) ≡ true
-    behind = subst (λ (k : List ℕ). is_lt (ordering_then (key_cmp b.key k) (option_cmp row_cmp (Some b.row) (Some c.row))) ≡ true) (sym same) q
+    is_less : is_lt (ordering_then (key_cmp b.key a.key) (option_cmp row_cmp (Some b.row) (Some c.row))) ≡ true
+    is_less = subst (λ (k : List ℕ). is_lt (ordering_then (key_cmp b.key k) (option_cmp row_cmp (Some b.row) (Some c.row))) ≡ true) (sym same) q
 
     clash : (o : Ordering) → o ≡ Greater → is_lt (ordering_then o (option_cmp row_cmp (Some b.row) (Some c.row))) ≡ true → ⊥
     clash Less e h = cc
@@ -21,7 +21,7 @@ between_keys a b c p q same = by (key_cmp a.key b.key) refl p
     clash Greater e h = cc
 
     by : (o : Ordering) → key_cmp a.key b.key ≡ o → is_lt (ordering_then o (option_cmp row_cmp (Some a.row) (Some b.row))) ≡ true → a.key ≡ b.key
-    by Less e h = absurd (clash (key_cmp b.key a.key) (keys_total.antisymm b.key a.key ∙ ap ordering_reverse e) behind)
+    by Less e h = absurd (clash (key_cmp b.key a.key) (keys_total.antisymm b.key a.key ∙ ap ordering_reverse e) is_less)
     by Equal e h = exact_bytes a.key b.key e
     by Greater e h = absurd cc
 
@@ -34,10 +34,10 @@ free_after e h p differ (z ∷ zs) ascends =
 
 right_free : (e : Entry) (low : Option Bound) (es : List Entry) (at : ℕ) → AscendsPast low es → AllByRecursion (λ x. is_past (bound_of e) x ≡ true) (drop at es)
     → ((x : Entry) → slice_get es at ≡ Some x → x.key ≢ e.key) → IsKeyFree e.key (drop at es)
-right_free e low [] zero ascends behind differ = tt
-right_free e low [] (suc at) ascends behind differ = tt
-right_free e low (x ∷ xs) zero ascends behind differ = (differ x refl, free_after e x behind.0 (differ x refl) xs ascends.1)
-right_free e low (x ∷ xs) (suc at) ascends behind differ = right_free e (Some (bound_of x)) xs at ascends.1 behind differ
+right_free e low [] zero ascends after differ = tt
+right_free e low [] (suc at) ascends after differ = tt
+right_free e low (x ∷ xs) zero ascends after differ = (differ x refl, free_after e x after.0 (differ x refl) xs ascends.1)
+right_free e low (x ∷ xs) (suc at) ascends after differ = right_free e (Some (bound_of x)) xs at ascends.1 after differ
 
 -- before it, the last of another key
 left_free : (e : Entry) (low : Option Bound) (es : List Entry) (at : ℕ) → at ≤ length es → AscendsPast low es → AllByRecursion (λ x. is_past (bound_of x) e ≡ true) (take at es)
@@ -55,7 +55,7 @@ pub key_free : (e : Entry) (es : List Entry) (at : ℕ) → IsAscending es → I
     → ((x : Entry) → slice_get es at ≡ Some x → x.key ≢ e.key) → IsKeyFree e.key es
 key_free e es at ascends place left right =
     subst (λ (l : List Entry). IsKeyFree e.key l) (take-append-drop at es)
-    (AllByRecursion-append (λ x. x.key ≢ e.key) (take at es) (drop at es) (left_free e None es at place.within ascends place.before left) (right_free e None es at ascends place.behind right))
+    (AllByRecursion-append (λ x. x.key ≢ e.key) (take at es) (drop at es) (left_free e None es at place.within ascends place.before left) (right_free e None es at ascends place.after right))
 
 -- an entry at a place, of this key, is among the entries
 pub row_there : (key : List ℕ) (found : Entry) (es : List Entry) (at : ℕ) → slice_get es at ≡ Some found → found.key ≡ key → is_among es (record { key = key; row = found.row }) ≡ true

@@ -104,8 +104,8 @@ pub never_itself : (key : List ℕ) → IsKeyBefore key key → ⊥
 never_itself key h = true≢false (sym h ∙ rw (tied_itself nat_list_cmp_total key) refl)
 
 -- what stands before stays no greater
-pub not_behind : (a b : Bound) → IsBefore a b → is_lt (bound_cmp b a) ≡ false
-not_behind a b h = rw (bounds_total.antisymm b a) (by (bound_cmp a b) h)
+pub not_below : (a b : Bound) → IsBefore a b → is_lt (bound_cmp b a) ≡ false
+not_below a b h = rw (bounds_total.antisymm b a) (by (bound_cmp a b) h)
   where
     by : (o : Ordering) → is_lt o ≡ true → is_lt (ordering_reverse o) ≡ false
     by Less e = refl

@@ -37,15 +37,15 @@ fn part_entries(page: &mut Page, at: usize, entry: Entry, half: &mut Page)
     ensures kept { page.new ≡ with_entries page.old
         (take (left_count (length (entries_of page.old.items)))
         (insert (entries_of page.old.items) at entry)) }
-    ensures behind { half.new ≡ with_entries half.old
+    ensures right_part { half.new ≡ with_entries half.old
         (drop (left_count (length (entries_of page.old.items)))
         (insert (entries_of page.old.items) at entry)) }
 {
     clear_entries(&mut half.items);
     if let Items::Entries(entries) = &mut page.items {
         let keep = (entries.len() + 2) / 2;
-        if let Items::Entries(behind) = &mut half.items {
-            put_and_part(entries, at, entry, keep, behind);
+        if let Items::Entries(right_part) = &mut half.items {
+            put_and_part(entries, at, entry, keep, right_part);
         }
     }
 }

@@ -111,16 +111,16 @@ fn part_links(page: &mut Page, at: usize, link: Downlink) -> ArrayVec<Downlink, 
     ensures kept { page.new ≡ with_downlinks page.old
         (take (left_count (length (links_of page.old.items)))
         (insert (links_of page.old.items) at link)) }
-    ensures behind { result.items
+    ensures right_part { result.items
         ≡ drop (left_count (length (links_of page.old.items)))
         (insert (links_of page.old.items) at link) }
 {
-    let mut behind = ArrayVec::new();
+    let mut right_part = ArrayVec::new();
     if let Items::Downlinks(links) = &mut page.items {
         let keep = (links.len() + 2) / 2;
-        put_and_part(links, at, link, keep, &mut behind);
+        put_and_part(links, at, link, keep, &mut right_part);
     }
-    behind
+    right_part
 }
 
 fn begin_low(links: &mut ArrayVec<Downlink, 50>, otherwise: &Bound) -> Bound
@@ -178,9 +178,9 @@ pub fn split_links(page: &mut Page, at: usize, separator: Bound, child: u32, new
         bound: Some(separator),
         child,
     };
-    let mut behind = part_links(page, at + 1, link);
-    let cut = begin_low(&mut behind, &separator);
-    let right = right_half(page, Items::Downlinks(behind), new);
+    let mut right_part = part_links(page, at + 1, link);
+    let cut = begin_low(&mut right_part, &separator);
+    let right = right_half(page, Items::Downlinks(right_part), new);
     end_at(page, cut, new);
     right
 }

@@ -16,29 +16,29 @@ fn copy_into<T: Copy + Default + Drop>(items: &[T], list: &mut ArrayVec<T, 50>)
 }
 
 /// Puts an item at a place, 0 to the number of the items; the first `keep` of them all stay, and the rest are
-/// put into `behind`, instead of what is there. `keep` is 1 to the number of the items before. At no time
+/// put into `right_part`, instead of what is there. `keep` is 1 to the number of the items before. At no time
 /// does one list have more than 50.
 pub fn put_and_part<T: Copy + Default + Drop>(
     items: &mut ArrayVec<T, 50>,
     at: usize,
     item: T,
     keep: usize,
-    behind: &mut ArrayVec<T, 50>,
+    right_part: &mut ArrayVec<T, 50>,
 )
     requires place { at ≤ length items.old.items }
     requires some_stay { 0 < keep }
     requires some_go { keep ≤ length items.old.items }
     ensures kept { items.new.items ≡ take keep (insert items.old.items at item) }
-    ensures behind { behind.new.items ≡ drop keep (insert items.old.items at item) }
+    ensures right_part { right_part.new.items ≡ drop keep (insert items.old.items at item) }
 {
     if at < keep {
-        copy_into(&items.as_slice()[keep - 1..], behind);
+        copy_into(&items.as_slice()[keep - 1..], right_part);
         items.truncate(keep - 1);
         items.insert(at, item);
     } else {
-        copy_into(&items.as_slice()[keep..], behind);
+        copy_into(&items.as_slice()[keep..], right_part);
         items.truncate(keep);
-        behind.insert(at - keep, item);
+        right_part.insert(at - keep, item);
     }
 }
 

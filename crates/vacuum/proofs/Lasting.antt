@@ -23,8 +23,8 @@ same_page pages block a b x y = (let k : Some a ≡ Some b = sym x ∙ y in cc)
 module _ (effect : Option Effect) (old new : State) (cursor : ℕ) (backtrack : Option Backtrack) (stay : LeafPagesStay effect old new) (went : WentBackFromLeaf old cursor backtrack) where
   -- the right half of a leaf to come is to come
   half_comes : (n : ℕ) → ((page : Page) → IsLeafAt old.pages n page → ⊥) → (n < last_read cursor backtrack → BlockIsToCome new cursor backtrack n) → BlockIsToCome new cursor backtrack n
-  half_comes n free behind = elim (cases_lt n (last_read cursor backtrack)) [
-    | inl lt ↦ behind lt
+  half_comes n free was_read = elim (cases_lt n (last_read cursor backtrack)) [
+    | inl lt ↦ was_read lt
     | inr ge ↦ ahead (beyond backtrack went ge)
   ]
     where
@@ -95,7 +95,7 @@ pub all_to_come : AllIsToCome
 all_to_come due st session order = record {
   from = tt;
   to_come = λ block page e at on is_due.
-      let s = stored_page st.limits block st.pages page order.tree.stored at.found in
+      let s = stored_page st.format block st.pages page order.tree.stored at.found in
       let above = (leaf_is page s.storable.admitted at.leaf).0 in
       ahead (subst (λ (b : ℕ). 1 ≤ b) s.block_is (omega (arith, above)));
 }

@@ -86,10 +86,10 @@ module _ (changed : Bool) (after : Page) (st : State) where
       by true = refl
       by false = refl
 
-  pub written_limits : (written changed after st).limits ≡ st.limits
-  written_limits = by changed
+  pub written_format : (written changed after st).format ≡ st.format
+  written_format = by changed
     where
-      by : (c : Bool) → (written c after st).limits ≡ st.limits
+      by : (c : Bool) → (written c after st).format ≡ st.format
       by true = refl
       by false = refl
 
@@ -175,7 +175,7 @@ comes_here st op page block tree fits at leaf block_is = by op.backtrack refl fi
 
 -- so it makes no more moves than there are pages
 pub never_too_far : (st : State) (op : BulkDeleteOp) (page : Page) (block cycle from : ℕ) → IsInOrder st → (fits : BulkDeleteInvariant st op) → next_block op.cursor op.backtrack ≡ block
-    → IsLeafAt st.pages block page → page.block ≡ block → length st.pages ≤ st.limits.pages → TurnsNoMore cycle st.limits.pages from (moves_of op.backtrack) page → ⊥
+    → IsLeafAt st.pages block page → page.block ≡ block → length st.pages ≤ st.format.pages → TurnsNoMore cycle st.format.pages from (moves_of op.backtrack) page → ⊥
 never_too_far st op page block cycle from order fits at leaf block_is few more =
     let short = trail_is_short_here st fits.start 0 page.block (moves_of op.backtrack) order.tree (comes_here st op page block order.tree fits at leaf block_is) in
     (let m = more.many in omega (arith, short, few, m))
@@ -199,8 +199,8 @@ passes g dead before after old new block page steps same alive at inside_is foun
       stopped = λ h. runs_no_more (g.backing old).stopped alive h;
       stats = tt;
       less = subst (λ (s : State).
-          bulk_delete_left s.limits.pages (length s.pages) (cursor_past before.cursor before.backtrack) None < bulk_delete_left st.limits.pages (length st.pages) before.cursor before.backtrack)
-          (sym same) (leaves_less st.limits.pages (length st.pages) before.cursor before.backtrack None inside_is (λ b k. none_turned b k));
+          bulk_delete_left s.format.pages (length s.pages) (cursor_past before.cursor before.backtrack) None < bulk_delete_left st.format.pages (length st.pages) before.cursor before.backtrack)
+          (sym same) (leaves_less st.format.pages (length st.pages) before.cursor before.backtrack None inside_is (λ b k. none_turned b k));
       due = λ honest due of h. subst (λ (s : State). DueIsToCome due s (cursor_past before.cursor before.backtrack) None) (sym same)
           (due_comes_on st st before.cursor before.backtrack None h.from (read_on honest) due h (λ p e leaf on is_due. no_leaf honest p leaf));
       pins = λ honest other b p differ leaf pin le. past honest b p leaf le;
@@ -272,8 +272,8 @@ writes_dead dead st op block page pruned at found alive leaf sw =
 module _ {S : Type 0} (g : Ghosts S) (dead : Row → Bool) (before : BulkDeleteOp) (old new : S) (block : ℕ) (page : Page) (pruned : PrunedLeaf) (next_page : Option Backtrack)
     (at : next_block before.cursor before.backtrack ≡ block) (inside_is : before.backtrack ≡ None → before.cursor < length (g.state old).pages)
     (found : (g.backing new).honest ≡ true → slice_get (g.state old).pages block ≡ Some page) (alive : page.state ≡ Live) (leaf : HasEntries page.items)
-    (stored : IsStored (g.state old).limits block page) (used : block < length (g.state old).pages) (few : length (g.state old).pages ≤ (g.state old).limits.pages)
-    (turn : TurnsTo (g.state old).cycle (g.state old).limits.pages (last_read before.cursor before.backtrack) (moves_of before.backtrack) page next_page)
+    (stored : IsStored (g.state old).format block page) (used : block < length (g.state old).pages) (few : length (g.state old).pages ≤ (g.state old).format.pages)
+    (turn : TurnsTo (g.state old).cycle (g.state old).format.pages (last_read before.cursor before.backtrack) (moves_of before.backtrack) page next_page)
     (sw : IsPruned dead page pruned) (free : is_held_by_another (g.state old).table before.session pruned.after.block Cleanup ≡ false) where
   -- the store after the step
   abbrev pub now : State
@@ -327,10 +327,10 @@ module _ {S : Type 0} (g : Ghosts S) (dead : Row → Bool) (before : BulkDeleteO
     stays = λ p h. record { page = stands; was = record { found = subst (λ (b : ℕ). slice_get now.pages b ≡ Some stands) next_is (there honest); alive = left.alive; leaf = left.leaf } };
     turn = λ p b h leads.
         let is_page = same_page (g.state old).pages (next_block before.cursor before.backtrack) p page h.found (leaf_here honest).found in
-        turned (g.state old).cycle (g.state old).limits.pages (last_read before.cursor before.backtrack) (moves_of before.backtrack) page next_page turn b
+        turned (g.state old).cycle (g.state old).format.pages (last_read before.cursor before.backtrack) (moves_of before.backtrack) page next_page turn b
         (subst (λ (q : Page). LeadsBack (g.state old).cycle (last_read before.cursor before.backtrack) q b) is_page leads);
     from = λ b is. (
-      (turned_from (g.state old).cycle (g.state old).limits.pages (last_read before.cursor before.backtrack) (moves_of before.backtrack) page next_page turn b is).1,
+      (turned_from (g.state old).cycle (g.state old).format.pages (last_read before.cursor before.backtrack) (moves_of before.backtrack) page next_page turn b is).1,
       record { page = page; was = leaf_here honest },
     );
   }
@@ -341,7 +341,7 @@ module _ {S : Type 0} (g : Ghosts S) (dead : Row → Bool) (before : BulkDeleteO
     alive = alive;
     leaf = leaf;
     after_is = refl;
-    may = swept_may dead (g.state old).limits (length (g.state old).pages) block page alive leaf stored used few;
+    may = swept_may dead (g.state old).format (length (g.state old).pages) block page alive leaf stored used few;
   }
 
   does : (g.backing new).honest ≡ true → IsInOrder (g.state old) → (es : List Entry) → dead_entries dead page ≡ es → StepEffect before.session (removes es) (g.state old) now
@@ -370,7 +370,7 @@ module _ {S : Type 0} (g : Ghosts S) (dead : Row → Bool) (before : BulkDeleteO
       by : (o : Option Backtrack) → next_page ≡ o → IsGoingBack now fits.start o
       by None is = tt
       by (Some b) is =
-          let t = turned_from (g.state old).cycle (g.state old).limits.pages (last_read before.cursor before.backtrack) (moves_of before.backtrack) page next_page turn b is in
+          let t = turned_from (g.state old).cycle (g.state old).format.pages (last_read before.cursor before.backtrack) (moves_of before.backtrack) page next_page turn b is in
           let here = comes_here (g.state old) before page block order.tree fits at (record { found = found honest; alive = alive; leaf = leaf }) block_is in
           let right = trail_moves_right (g.state old) fits.start 0 (moves_of before.backtrack) b.block page order.tree (found_here honest) t.0.right_is here in
           trail_lasts honest order fits.start b.block b.moves fits.running (subst (HasTrail (g.state old) fits.start 0 b.block) (sym t.2) right)
@@ -400,7 +400,7 @@ module _ {S : Type 0} (g : Ghosts S) (dead : Row → Bool) (before : BulkDeleteO
   counted : (g.backing new).honest ≡ true → IsCounted dead (g.state old) before → IsCounted dead now (moved_beyond before next_page pruned.kept pruned.gone)
   counted honest h = counts_on dead (g.state old) now before next_page pruned.kept pruned.gone h others
       (λ b is.
-      let t = turned_from (g.state old).cycle (g.state old).limits.pages (last_read before.cursor before.backtrack) (moves_of before.backtrack) page next_page turn b is in
+      let t = turned_from (g.state old).cycle (g.state old).format.pages (last_read before.cursor before.backtrack) (moves_of before.backtrack) page next_page turn b is in
       (t.0.below, t.1))
       (λ k. ap entry_count (subst (λ (b : ℕ). slice_get now.pages b ≡ Some stands) (next_is ∙ ap (λ (o : Option Backtrack). next_block before.cursor o) k) (there honest))
       ∙ ap length (live_is stands left.alive left.leaf ∙ left.entries) ∙ ap (λ (p : Page). length (entries_of p.items)) (sym sw.after_is) ∙ sym sw.kept_is)
@@ -422,11 +422,11 @@ module _ {S : Type 0} (g : Ghosts S) (dead : Row → Bool) (before : BulkDeleteO
     refused = tt;
     stopped = λ h. runs_no_more (g.backing old).stopped running h;
     stats = tt;
-    less = subst (λ (s : State). bulk_delete_left s.limits.pages (length s.pages) (cursor_past before.cursor before.backtrack) next_page
-        < bulk_delete_left (g.state old).limits.pages (length (g.state old).pages) before.cursor before.backtrack) (sym new_is)
-        (rw (written_limits (nat_lt 0 pruned.gone) (without_dead dead page) (g.state old), written_length (nat_lt 0 pruned.gone) (without_dead dead page) (g.state old) lt)
-        (leaves_less (g.state old).limits.pages (length (g.state old).pages) before.cursor before.backtrack next_page inside_is
-        (λ b k. let t = turned_from (g.state old).cycle (g.state old).limits.pages (last_read before.cursor before.backtrack) (moves_of before.backtrack) page next_page turn b k in (t.2, t.3))));
+    less = subst (λ (s : State). bulk_delete_left s.format.pages (length s.pages) (cursor_past before.cursor before.backtrack) next_page
+        < bulk_delete_left (g.state old).format.pages (length (g.state old).pages) before.cursor before.backtrack) (sym new_is)
+        (rw (written_format (nat_lt 0 pruned.gone) (without_dead dead page) (g.state old), written_length (nat_lt 0 pruned.gone) (without_dead dead page) (g.state old) lt)
+        (leaves_less (g.state old).format.pages (length (g.state old).pages) before.cursor before.backtrack next_page inside_is
+        (λ b k. let t = turned_from (g.state old).cycle (g.state old).format.pages (last_read before.cursor before.backtrack) (moves_of before.backtrack) page next_page turn b k in (t.2, t.3))));
     due = λ honest due of h. subst (λ (s : State). DueIsToCome due s (cursor_past before.cursor before.backtrack) next_page) (sym new_is)
         (due_comes_on (g.state old) now before.cursor before.backtrack next_page h.from (read_on honest) due h
         (λ p e at_leaf on is_due. clash (dead e.row) (of e is_due) (live_there honest p e at_leaf on)));

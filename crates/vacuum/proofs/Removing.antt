@@ -126,17 +126,17 @@ leaf_few page leaf h = by page.items leaf h.kind
     by (Downlinks v) has kind = absurd has
     by (Entries v) has kind = kind.count
 
-pub swept_may : (dead : Row → Bool) (limits : Format) (used block : ℕ) (page : Page) → page.state ≡ Live → HasEntries page.items → IsStored limits block page → block < used → used ≤ limits.pages
-    → AreActable limits used (without_dead dead page ∷ [])
-swept_may dead limits used block page alive leaf stored in_use few = (
-  writable limits (without_dead dead page) refl
+pub swept_may : (dead : Row → Bool) (format : Format) (used block : ℕ) (page : Page) → page.state ≡ Live → HasEntries page.items → IsStored format block page → block < used → used ≤ format.pages
+    → AreActable format used (without_dead dead page ∷ [])
+swept_may dead format used block page alive leaf stored in_use few = (
+  writable format (without_dead dead page) refl
       (swept_page (renewed page) (lives dead) alive leaf (renewed_is_page page stored.storable.admitted)) (fewer page.items leaf stored.storable.few),
   (omega (arith, in_use, stored.block_is), omega (arith, in_use, few, stored.block_is)),
   tt,
   tt,
 )
   where
-    fewer : (items : Items) → HasEntries items → count_of items ≤ limits.items → length (filter (lives dead) (entries_of items)) ≤ limits.items
+    fewer : (items : Items) → HasEntries items → count_of items ≤ format.items → length (filter (lives dead) (entries_of items)) ≤ format.items
     fewer Meta has le = absurd has
     fewer (Downlinks v) has le = absurd has
     fewer (Entries v) has le = (let parts = parted (lives dead) v.items in omega (arith, parts, le))
@@ -173,7 +173,7 @@ does_remove st session dead page e es order h is free = record {
   };
   flags = removing_flags st (lives dead) page (without_dead dead page) order.tree h;
   leaves = removing_leaves st (lives dead) page (without_dead dead page) (e ∷ es) order.tree h;
-  limits = refl;
+  format = refl;
   frames = refl;
   begun = refl;
   running = refl;
@@ -187,8 +187,8 @@ does_remove st session dead page e es order h is free = record {
     no_more : e ∷ es ≡ [] → ⊥
     no_more none = cc
 
-    stored : IsStored st.limits page.block page
-    stored = stored_page st.limits page.block st.pages page order.tree.stored h.found
+    stored : IsStored st.format page.block page
+    stored = stored_page st.format page.block st.pages page order.tree.stored h.found
 
     ascends : IsAscending (entries_of page.items)
     ascends = by page.items h.leaf stored.storable.admitted.kind

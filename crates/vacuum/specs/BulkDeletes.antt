@@ -129,8 +129,8 @@ StatsAreRight st op (Err fault) = Unit {0}
 abbrev pub BulkDeleteHasLessLeft : State → State → BulkDeleteOp → BulkDeleteOp
     → Result BulkDeleteStep Fault → Type 0
 BulkDeleteHasLessLeft old new before after (Ok Going) =
-    bulk_delete_left new.limits.pages (length new.pages) after.cursor after.backtrack
-    < bulk_delete_left old.limits.pages (length old.pages) before.cursor before.backtrack
+    bulk_delete_left new.format.pages (length new.pages) after.cursor after.backtrack
+    < bulk_delete_left old.format.pages (length old.pages) before.cursor before.backtrack
 BulkDeleteHasLessLeft old new before after (Ok (Finished stats)) = Unit {0}
 BulkDeleteHasLessLeft old new before after (Err fault) = Unit {0}
 

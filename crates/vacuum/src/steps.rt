@@ -175,7 +175,7 @@ impl BulkDeleteOp {
     // Latches a leaf for cleanup, and writes it, if it is changed. The latch is let go again: the step is one
     // moment.
     fn take<S: PageStore>(&self, store: &mut S, page: &Page, changed: bool) -> Result<(), Fault>
-        requires may { AreActable (S.state store.old).limits (length (S.state store.old).pages)
+        requires may { AreActable (S.state store.old).format (length (S.state store.old).pages)
             (page.now ∷ []) }
         ensures steps { Continues S.follows store.old store.new }
         ensures free { OnOk result (is_held_by_another (S.state store.old).table

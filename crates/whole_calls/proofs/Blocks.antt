@@ -16,11 +16,11 @@ same_reusable a b pages counted running (suc n) =
     ∙ ap (λ (more : Bool). is_reusable b n || more) (same_reusable a b pages counted running n)
 
 -- no block is unused, and none may be used again
-pub same_out : (a b : State) → a.limits ≡ b.limits → a.pages ≡ b.pages → a.counted ≡ b.counted → a.running ≡ b.running → is_out_of_blocks a ≡ is_out_of_blocks b
-same_out a b limits pages counted running =
-    ap (λ (l : Format). nat_le l.pages (length a.pages) && not (any_is_reusable a (length a.pages))) limits
-    ∙ ap (λ (l : List Page). nat_le b.limits.pages (length l) && not (any_is_reusable a (length l))) pages
-    ∙ ap (λ (some : Bool). nat_le b.limits.pages (length b.pages) && not some) (same_reusable a b pages counted running (length b.pages))
+pub same_out : (a b : State) → a.format ≡ b.format → a.pages ≡ b.pages → a.counted ≡ b.counted → a.running ≡ b.running → is_out_of_blocks a ≡ is_out_of_blocks b
+same_out a b format pages counted running =
+    ap (λ (l : Format). nat_le l.pages (length a.pages) && not (any_is_reusable a (length a.pages))) format
+    ∙ ap (λ (l : List Page). nat_le b.format.pages (length l) && not (any_is_reusable a (length l))) pages
+    ∙ ap (λ (some : Bool). nat_le b.format.pages (length b.pages) && not some) (same_reusable a b pages counted running (length b.pages))
 
 -- numbers in their places
 
@@ -38,7 +38,7 @@ set_own (z ∷ zs) (suc i) = ap (λ (l : List (Option ℕ)). z ∷ l) (set_own z
 pub record LeavesState (old new : State) : Type 0 where
   pub acts : new.acts ≡ old.acts
   pub frames : new.frames ≡ old.frames
-  pub limits : new.limits ≡ old.limits
+  pub format : new.format ≡ old.format
   pub pages : new.pages ≡ old.pages
   pub counted : new.counted ≡ old.counted
 
@@ -47,11 +47,11 @@ pub leaves_state : (slot : Option Op) (st new : State) → new ≡ after_slot sl
 leaves_state slot st new is = subst (λ (x : State). LeavesState st x) (sym is) (of slot)
   where
     let_go_leaves : (bulk : Bool) (session : ℕ) → LeavesState st (let_go bulk session st)
-    let_go_leaves true session = record { acts = refl; frames = refl; limits = refl; pages = refl; counted = refl }
-    let_go_leaves false session = record { acts = refl; frames = refl; limits = refl; pages = refl; counted = refl }
+    let_go_leaves true session = record { acts = refl; frames = refl; format = refl; pages = refl; counted = refl }
+    let_go_leaves false session = record { acts = refl; frames = refl; format = refl; pages = refl; counted = refl }
 
     of : (o : Option Op) → LeavesState st (after_slot o st)
-    of None = record { acts = refl; frames = refl; limits = refl; pages = refl; counted = refl }
+    of None = record { acts = refl; frames = refl; format = refl; pages = refl; counted = refl }
     of (Some op) = let_go_leaves (is_bulk_delete op) (session_of op)
 
 -- the start numbers of calls stay at a call's end, except for its own
@@ -104,6 +104,6 @@ blocks_after session op st new is (inr same) =
     ∙ same_out (with_number session (start_number st session) st) st refl refl refl (set_own st.running session)
 
 -- blocks are as free at one moment as at the other
-pub blocks_same : (session : ℕ) (number : Option ℕ) (mid new : State) → new.limits ≡ mid.limits → new.pages ≡ mid.pages → new.counted ≡ mid.counted
+pub blocks_same : (session : ℕ) (number : Option ℕ) (mid new : State) → new.format ≡ mid.format → new.pages ≡ mid.pages → new.counted ≡ mid.counted
     → slice_set new.running session number ≡ slice_set mid.running session number → has_no_block session number new ≡ has_no_block session number mid
-blocks_same session number mid new limits pages counted numbers = same_out (with_number session number new) (with_number session number mid) limits pages counted numbers
+blocks_same session number mid new format pages counted numbers = same_out (with_number session number new) (with_number session number mid) format pages counted numbers

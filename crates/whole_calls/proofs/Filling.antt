@@ -38,28 +38,28 @@ cursor_low cursor Look = omega arith
 cursor_low cursor at = omega arith
 
 -- one that has just begun comes to no full count
-module _ {S : Type 0} (g : Ghosts S) (laws : Laws g) (start : Entry → Bool) (session : ℕ) (first : Moment S) (fits : Fits g start first) (are : AreLimits (g.state first.store).limits) where
+module _ {S : Type 0} (g : Ghosts S) (laws : Laws g) (start : Entry → Bool) (session : ℕ) (first : Moment S) (fits : Fits g start first) (are : AreLimits (g.state first.store).format) where
   removed_low : (now : Moment S) (number : ℕ) (call : Call) (dead : Row → Bool) (effects : List Effect) → IsRunningCall now.calls session number call → call.ask ≡ AskBulkDelete dead
       → now.history ≡ first.history ++ acts_by number effects → Fits g start now → length (removed_of effects) ≤ 3276800
   removed_low now number call dead effects is asks history then_fits =
       let apt = remove_there start number now.calls call dead is.found asks first.history now.history effects history then_fits.explains.owned in
-      let most = removed_few (g.state first.store).limits (g.state first.store).pages (removed_of effects) are.items_to (laws.stored first.store) (all_once start number first.history effects apt)
+      let most = removed_few (g.state first.store).format (g.state first.store).pages (removed_of effects) are.items_to (laws.stored first.store) (all_once start number first.history effects apt)
       (λ e h. fits.explains.contents e ∙ all_were start number first.history effects apt e h) in
       let few = laws.few first.store in
       let low = are.pages_to in
       omega (arith, most, few, low)
 
-  left_low : (now : Moment S) → (g.state now.store).limits ≡ (g.state first.store).limits → (n : ℕ) → entries_below (g.state now.store).pages n ≤ 3276800
-  left_low now limits n =
-      let items : (g.state now.store).limits.items ≤ 50 = subst (λ (l : Format). l.items ≤ 50) (sym limits) are.items_to in
-      let low : (g.state now.store).limits.pages ≤ 65536 = subst (λ (l : Format). l.pages ≤ 65536) (sym limits) are.pages_to in
-      let most = entries_few (g.state now.store).limits (g.state now.store).pages n items (laws.stored now.store) in
+  left_low : (now : Moment S) → (g.state now.store).format ≡ (g.state first.store).format → (n : ℕ) → entries_below (g.state now.store).pages n ≤ 3276800
+  left_low now format n =
+      let items : (g.state now.store).format.items ≤ 50 = subst (λ (l : Format). l.items ≤ 50) (sym format) are.items_to in
+      let low : (g.state now.store).format.pages ≤ 65536 = subst (λ (l : Format). l.pages ≤ 65536) (sym format) are.pages_to in
+      let most = entries_few (g.state now.store).format (g.state now.store).pages n items (laws.stored now.store) in
       let few = laws.few now.store in
       omega (arith, most, few, low)
 
-  used_low : (now : Moment S) → (g.state now.store).limits ≡ (g.state first.store).limits → length (g.state now.store).pages ≤ 65536
-  used_low now limits =
-      let low : (g.state now.store).limits.pages ≤ 65536 = subst (λ (l : Format). l.pages ≤ 65536) (sym limits) are.pages_to in
+  used_low : (now : Moment S) → (g.state now.store).format ≡ (g.state first.store).format → length (g.state now.store).pages ≤ 65536
+  used_low now format =
+      let low : (g.state now.store).format.pages ≤ 65536 = subst (λ (l : Format). l.pages ≤ 65536) (sym format) are.pages_to in
       let few = laws.few now.store in
       omega (arith, few, low)
 
@@ -85,21 +85,21 @@ module _ {S : Type 0} (g : Ghosts S) (laws : Laws g) (start : Entry → Bool) (s
       ∙ ap (λ (l : List Action). removed_by number (drop (length first.history) l)) gone.history_is
       ∙ ap (λ (l : List Action). removed_by number l) (drop-append_seam first.history (acts_by number effects)) ∙ all_counted start number effects in
       of r.0 r.2.number r.2.call.began asks r.2.deletions (subst (λ (o : Option Op). IsCountedIn first.sets (g.state now.store) o) slot counted)
-      (length (removed_of effects)) many low to.limits_are (subst (λ (o : Option Op). is_full_vacuum o ≡ true) slot out)
+      (length (removed_of effects)) many low to.format_is (subst (λ (o : Option Op). is_full_vacuum o ≡ true) slot out)
     where
       of : (op : Op) (n b : ℕ) → asked_of now.sets op ≡ AskBulkDelete dead → OpDeletions (g.state now.store) now.sets start now.history n b op → IsCountedIn first.sets (g.state now.store) (Some op)
-          → (count : ℕ) → removed_by n (drop b now.history) ≡ count → count ≤ 3276800 → (g.state now.store).limits ≡ (g.state first.store).limits → is_full_vacuum (Some op) ≡ true → false ≡ true
-      of (Bulk set op) n b asks deletions counts count many low limits out =
-          let left = left_low now limits op.cursor in
+          → (count : ℕ) → removed_by n (drop b now.history) ≡ count → count ≤ 3276800 → (g.state now.store).format ≡ (g.state first.store).format → is_full_vacuum (Some op) ≡ true → false ≡ true
+      of (Bulk set op) n b asks deletions counts count many low format out =
+          let left = left_low now format op.cursor in
           let is_left = counts.counted in
           let is_removed = deletions.1.removed in
           not_out op (omega (arith, left, is_left)) (omega (arith, low, many, is_removed)) out
-      of op n b asks deletions counts count many low limits out = absurd counts
+      of op n b asks deletions counts count many low format out = absurd counts
 
   -- nor does a cleanup
   pub cleanup_fills : (now : Moment S) → HasReached g session first now
       → IsCountedAs of_cleanup first.sets (g.state now.store) (slot_of now.slots session) → is_full_vacuum (slot_of now.slots session) ≡ true → false ≡ true
-  cleanup_fills now to counted out = of (slot_of now.slots session) counted (λ n. left_low now to.limits_are n) (used_low now to.limits_are) out
+  cleanup_fills now to counted out = of (slot_of now.slots session) counted (λ n. left_low now to.format_is n) (used_low now to.format_is) out
     where
       of : (slot : Option Op) → IsCountedAs of_cleanup first.sets (g.state now.store) slot
           → ((n : ℕ) → entries_below (g.state now.store).pages n ≤ 3276800) → length (g.state now.store).pages ≤ 65536 → is_full_vacuum slot ≡ true → false ≡ true

@@ -67,7 +67,7 @@ pub use Rattle.whole_calls.specs.Going.{CallIsRun, CallIsRunFrom, CallRuns, IsAm
 pub use Rattle.whole_calls.specs.Made.{Answered, AreMade, ComesTo, HasItsRoom, InsertComesTo, IsMadeOf, StepComesTo}
 pub use Rattle.whole_calls.specs.Meanings.{AreOwnEffects, BeginMeans, CallAnswers, EndMeans, HasBegun, HasContinued, HasNone, HasRunSoFar, InsertMeans, IsAddedNow, IsNotAdded, IsOwnEffect}
 pub use Rattle.whole_calls.specs.Meanings.{IsSameHistory, MayAnswer, MayComeTo, NextMeans, NothingIsDone, RoomIsMade, SessionStepMeans, StepMeans, acts_by, begin_outcome, begun_of, first_call}
-pub use Rattle.whole_calls.specs.Meanings.{inserted_call, left_behind, noted_after, outcome_of, shapes, with_one_call}
+pub use Rattle.whole_calls.specs.Meanings.{inserted_call, outcome_at_fault, noted_after, outcome_of, shapes, with_one_call}
 pub use Rattle.whole_calls.specs.OneStep.{HasStepped, IsGivenUpFor, IsMadeAsStep, IsRoomTried, IsStepMade, OneStepAlways, OneStepComesTo, OneStepIsRun, cut_short}
 pub use Rattle.whole_calls.specs.Refusing.{InsertCallIsCaused, ScanIsCaused, another_runs, causes_of_asked, causes_of_called, causes_of_gone, causes_of_inserted, has_no_block, is_full_vacuum}
 pub use Rattle.whole_calls.specs.Refusing.{is_tall, others_run, with_number}

@@ -5,7 +5,7 @@ use Rattle.whole_calls.proofs.Imports.{false≢true, append-nil, EndsAdded, Row,
 use Rattle.whole_calls.proofs.Imports.{AskInsert, Ending, Running, GivenUp, Failed, AnswersRight, end_of, Meets, Call, HasCause, Entry, Fault, Ghosts, ends_call, IsCaused, acts_of, act_count}
 use Rattle.whole_calls.proofs.Imports.{noted, ended, slot_add, once_added, Answer, Going, Added, Refused, Op, StoreAndSlots, Moment, snapshot_of, IsRunningCall, Fits, here_at, slot_of, Answered}
 use Rattle.whole_calls.proofs.Imports.{InsertComesTo, CallIsRun, CallIsRunFrom, causes_of_inserted, causes_of_asked, has_no_block, is_tall, InsertCallIsCaused, RequestIsRun, MayAnswer, acts_by}
-use Rattle.whole_calls.proofs.Imports.{noted_after, AreOwnEffects, CallAnswers, StepMeans, HasNone, EndMeans, with_one_call, first_call, NextMeans, NothingIsDone, left_behind, outcome_of, shapes}
+use Rattle.whole_calls.proofs.Imports.{noted_after, AreOwnEffects, CallAnswers, StepMeans, HasNone, EndMeans, with_one_call, first_call, NextMeans, NothingIsDone, outcome_at_fault, outcome_of, shapes}
 use Rattle.whole_calls.proofs.Imports.{inserted_call, IsAddedNow, IsNotAdded, InsertMeans}
 use Rattle.whole_calls.proofs.Composing.{goes_told}
 use Rattle.whole_calls.proofs.Refusing.{called_wider, begun_called, stopped_before}
@@ -38,8 +38,8 @@ none_added number e call count (Remove es ∷ effects) ask none own = absurd (rw
 -- what an insert has appended that has its Add at the end
 pub record OneAdd (number : ℕ) (e : Entry) (call : Call) (count : ℕ) (effects : List Effect) (action : ℕ) : Type 0 where
   pub before : ℕ
-  pub behind : ℕ
-  pub acts_are : acts_by number effects ≡ shapes number before ++ (record { by = number; effect = Add e }) ∷ shapes number behind
+  pub shapes_after : ℕ
+  pub acts_are : acts_by number effects ≡ shapes number before ++ (record { by = number; effect = Add e }) ∷ shapes number shapes_after
   pub action_is : action ≡ suc (before + count)
   pub noted_is : noted_after call count effects ≡ record call { added = Some action }
 
@@ -51,7 +51,7 @@ one_add number e call count (Shape ∷ effects) action ask none some own =
     let r = one_add number e call (suc count) effects action ask none some own.1 in
     record {
       before = suc r.before;
-      behind = r.behind;
+      shapes_after = r.shapes_after;
       acts_are = ap (λ (l : List Action). (record { by = number; effect = Shape }) ∷ l) r.acts_are;
       action_is = (let is = r.action_is in omega (arith, is));
       noted_is = r.noted_is;
@@ -63,7 +63,7 @@ one_add number e call count (Add x ∷ effects) action ask none some own =
     let is : action ≡ suc count = (let s : (noted_after call count (Add x ∷ effects)).added ≡ Some (suc count) = ap (λ (c : Call). c.added) r.1 in cc) in
     record {
       before = 0;
-      behind = length effects;
+      shapes_after = length effects;
       acts_are = ap (λ (l : List Action). (record { by = number; effect = Add x }) ∷ l) r.0 ∙ ap (λ (y : Entry). (record { by = number; effect = Add y }) ∷ shapes number (length effects)) (sym same);
       action_is = omega (arith, is);
       noted_is = r.1 ∙ ap (λ (n : ℕ). let c : Call = record call { added = Some n } in c) (sym is);
@@ -200,10 +200,10 @@ module _ {S : Type 0} (g : Ghosts S) (start : Entry → Bool) (session : ℕ) (e
       t.calls_is ∙ set_new x.calls request_call t.after ∙ ap (λ (c : Call). x.calls ++ c ∷ []) after_is in
       record {
         before = o.before;
-        behind = o.behind;
+        shapes_after = o.shapes_after;
         ending = EndsAdded action unfinished;
         history_is = end.history_is ∙ w.history_is ∙ ap (λ (l : List Action). x.history ++ l) o.acts_are
-            ∙ sym (append_assoc x.history (shapes insert_number o.before) ((record { by = insert_number; effect = Add entry }) ∷ shapes insert_number o.behind));
+            ∙ sym (append_assoc x.history (shapes insert_number o.before) ((record { by = insert_number; effect = Add entry }) ∷ shapes insert_number o.shapes_after));
         action_is = o.action_is;
         end_is = inl refl;
         calls_is = end.calls_is (ended_none session x y (inserted_call session entry (length x.history) action (EndsAdded action unfinished) (length z.history)) free calls (λ e. cc)) ∙ calls;
@@ -295,10 +295,10 @@ module _ {S : Type 0} (g : Ghosts S) (start : Entry → Bool) (session : ℕ) (e
         ∙ ap (λ (cs : List Call). slice_set cs insert_number (ended l.after GivenUp (length y.history))) (last_call fault l) ∙ set_new x.calls l.after (ended l.after GivenUp (length y.history)) in
         record {
           before = o.before;
-          behind = o.behind;
+          shapes_after = o.shapes_after;
           ending = GivenUp;
           history_is = end.history_is ∙ l.history_is ∙ ap (λ (h : List Action). x.history ++ h) o.acts_are
-              ∙ sym (append_assoc x.history (shapes insert_number o.before) ((record { by = insert_number; effect = Add entry }) ∷ shapes insert_number o.behind));
+              ∙ sym (append_assoc x.history (shapes insert_number o.before) ((record { by = insert_number; effect = Add entry }) ∷ shapes insert_number o.shapes_after));
           action_is = o.action_is;
           end_is = inr (refl, λ e. cc);
           calls_is = calls ∙ ap (λ (c : Call). x.calls ++ ended c GivenUp (length y.history) ∷ []) (is ∙ o.noted_is)
@@ -309,7 +309,7 @@ module _ {S : Type 0} (g : Ghosts S) (start : Entry → Bool) (session : ℕ) (e
   ]
 
   left_told : (fault : Fault) (added : Option ℕ) → slot_add (slot_of y.slots session) ≡ added → IsLeftSo insert_number request_call fault begun y
-      → InsertMeans session entry (left_behind added fault) x z
+      → InsertMeans session entry (outcome_at_fault added fault) x z
   left_told fault None is l = left_without fault l is
   left_told fault (Some action) is l = left_with fault l action is
 
@@ -359,12 +359,12 @@ module _ {S : Type 0} (g : Ghosts S) (session least_room : ℕ) (entry : Entry) 
       → IsCaused (causes_of_asked g session least_room (Some (g.state old.store).begun) false (AskInsert entry) old new) answer
       → InsertCallIsCaused g session least_room entry old new (outcome_of answer added)
   caused old new (Added action None) added may apart c = tt
-  caused old new (Added action (Some fault)) added may apart c = added_cause g session least_room old new (λ r. (g.state new).limits.unique) (no_block old new) (is_tall (g.state new)) fault c
+  caused old new (Added action (Some fault)) added may apart c = added_cause g session least_room old new (λ r. (g.state new).format.unique) (no_block old new) (is_tall (g.state new)) fault c
   caused old new (Refused fault) None may apart c =
       called_wider g session (ToInsert entry) old
-      (causes_of_inserted g session least_room true (λ r. (g.state new).limits.unique) (no_block old new) (is_tall (g.state new)) old new) refl refl refl fault c
+      (causes_of_inserted g session least_room true (λ r. (g.state new).format.unique) (no_block old new) (is_tall (g.state new)) old new) refl refl refl fault c
   caused old new (Refused fault) (Some action) may apart c =
-      left_cause g session least_room old new (λ r. (g.state new).limits.unique) (no_block old new) (is_tall (g.state new)) fault (λ of. apart action refl fault of refl) c
+      left_cause g session least_room old new (λ r. (g.state new).format.unique) (no_block old new) (is_tall (g.state new)) fault (λ of. apart action refl fault of refl) c
   caused old new answer added may apart c = absurd may
 
   may_run : (start : Entry → Bool) (x z : Moment S) (answer : Answer) (added : Option ℕ) → answer ≢ Going
@@ -379,7 +379,7 @@ module _ {S : Type 0} (g : Ghosts S) (session least_room : ℕ) (entry : Entry) 
   insert_caused {x = x} {z} answer added over (inl n) =
       rw (n.refused, n.none)
       (begun_called g session (ToInsert entry) (here_at x)
-      (causes_of_inserted g session least_room true (λ r. (g.state z.store).limits.unique) (no_block (here_at x) z.store)
+      (causes_of_inserted g session least_room true (λ r. (g.state z.store).format.unique) (no_block (here_at x) z.store)
       (is_tall (g.state z.store)) (here_at x) z.store) (λ h. stopped_before g session least_room false (here_at x) z.store h) n.fault n.cause)
   insert_caused {start} {x} {z} answer added over (inr r) =
       caused (here_at x) z.store answer added (may_run start x z answer added over (inr r))

@@ -27,15 +27,15 @@ module _ {S : Type 0} {g : Ghosts S} {session : ℕ} where
   -- before the first step
   pub reached_here : (x : Moment S) → HasReached g session x x
   reached_here x =
-      record { lasts = record { steps = λ f h. h; others = λ other apart. refl }; sets_are = refl; limits_are = refl; far = far_nowhere session x; counted = λ what so. so; numbers = refl }
+      record { lasts = record { steps = λ f h. h; others = λ other apart. refl }; sets_are = refl; format_is = refl; far = far_nowhere session x; counted = λ what so. so; numbers = refl }
 
   -- a step that goes on
   pub moved_beyond : {least_room : ℕ} {answer : Answer} {x y z : Moment S} → answer ≡ Going → HasReached g session x y → Lasts g session y z → z.sets ≡ y.sets
-      → (g.state z.store).limits ≡ (g.state y.store).limits → StepIsRun g session least_room answer y z → HasReached g session x z
-  moved_beyond {x = x} {y} {z} going gone lasts sets limits step = record {
+      → (g.state z.store).format ≡ (g.state y.store).format → StepIsRun g session least_room answer y z → HasReached g session x z
+  moved_beyond {x = x} {y} {z} going gone lasts sets format step = record {
     lasts = lasts_then gone.lasts lasts;
     sets_are = sets ∙ gone.sets_are;
-    limits_are = limits ∙ gone.limits_are;
+    format_is = format ∙ gone.format_is;
     numbers = step.numbers going ∙ gone.numbers;
     far = far_then session x y z gone.far (subst (λ (a : Answer). SessionStepMeans session a y z) going step.told);
     counted = λ what so. (

@@ -76,13 +76,13 @@ module _ {S : Type 0} {g : Ghosts S} {session least_room : ℕ} where
 
   -- one event, of this kind
   pub made_alone : (event : Event) (kind : Kind) {answer : Answer} {a b : StoreAndSlots S} → kind_of event ≡ kind → IsOfSession session kind
-      → HasItsRoom least_room kind (g.state a.store).limits (g.backing a.store) → EventEffect g kind answer a b → IsMadeOf g session least_room (λ answers. answers ≡ answer ∷ []) a b
+      → HasItsRoom least_room kind (g.state a.store).format (g.backing a.store) → EventEffect g kind answer a b → IsMadeOf g session least_room (λ answers. answers ≡ answer ∷ []) a b
   made_alone event kind {answer} {a} {b} is of room makes = record {
     events = event ∷ [];
     answers = answer ∷ [];
     own = (subst (λ (k : Kind). IsOfSession session k) (sym is) of, tt);
     made = (
-      subst (λ (k : Kind). HasItsRoom least_room k (g.state a.store).limits (g.backing a.store)) (sym is) room,
+      subst (λ (k : Kind). HasItsRoom least_room k (g.state a.store).format (g.backing a.store)) (sym is) room,
       (b, subst (λ (k : Kind). EventEffect g k answer a b) (sym is) makes, refl),
     );
     outcome_by = refl;
@@ -90,7 +90,7 @@ module _ {S : Type 0} {g : Ghosts S} {session least_room : ℕ} where
 
   -- ... which answered this
   pub made_once : (event : Event) (kind : Kind) {answer : Answer} {a b : StoreAndSlots S} → kind_of event ≡ kind → IsOfSession session kind
-      → HasItsRoom least_room kind (g.state a.store).limits (g.backing a.store) → EventEffect g kind answer a b → IsMadeOf g session least_room (λ answers. IsAmong answers answer) a b
+      → HasItsRoom least_room kind (g.state a.store).format (g.backing a.store) → EventEffect g kind answer a b → IsMadeOf g session least_room (λ answers. IsAmong answers answer) a b
   made_once event kind {answer} is of room makes = made_told (made_alone event kind is of room makes) (λ xs alone. step_among answer xs (inl alone))
 
   -- one step, which answered this

@@ -150,9 +150,9 @@ room_goes {g = g} laws {session} {least_room} {answer} {Both} {a = a} {b} {c} st
 
 -- the step itself, if room is made for it
 pub is_step_made : {S : Type 0} {g : Ghosts S} {session least_room : ℕ} {answer : Answer} {st : State} {mid new : StoreAndSlots S} → g.state mid.store ≡ st
-    → RoomIsMade least_room st.limits (g.backing mid.store) → EventEffect g (MovesCall session Steps) answer mid new → IsStepMade g session least_room answer mid new
+    → RoomIsMade least_room st.format (g.backing mid.store) → EventEffect g (MovesCall session Steps) answer mid new → IsStepMade g session least_room answer mid new
 is_step_made {g = g} {least_room = least_room} {mid = mid} is room makes =
-    record { room = subst (λ (s : State). RoomIsMade least_room s.limits (g.backing mid.store)) (sym is) room; makes = makes }
+    record { room = subst (λ (s : State). RoomIsMade least_room s.format (g.backing mid.store)) (sym is) room; makes = makes }
 
 -- what makes room, and then the step
 pub room_made : {S : Type 0} {g : Ghosts S} {session least_room : ℕ} {answer : Answer} {One : List Answer → Type 0} {a b c : StoreAndSlots S} → IsMadeOf g session least_room One a b
@@ -272,7 +272,7 @@ module _ {S : Type 0} (g : Ghosts S) (session : ℕ) {store mid : S} {slots : Li
         kept = record {
           acts = inl (left.acts ∙ ap (λ (st : State). st.acts) same);
           quiet = λ e. left.pages ∙ ap (λ (st : State). st.pages) same;
-          limits = left.limits ∙ ap (λ (st : State). st.limits) same;
+          format = left.format ∙ ap (λ (st : State). st.format) same;
           frames = left.frames ∙ ap (λ (st : State). st.frames) same;
         };
         blocked = λ block e. absurd (true_false (sym last ∙ ap is_last e));

@@ -219,7 +219,7 @@ told_after op answer st new before after is refused unfinished fault told = absu
 
 -- a step of the session's running call
 module _ {S : Type 0} (g : Ghosts S) (start : Entry → Bool) (session least_room : ℕ) (x y : Moment S) (fits : Fits g start x) (room : 5 ≤ least_room → 5 ≤ (g.backing x.store).promised)
-    (limits : (g.state y.store).limits ≡ (g.state x.store).limits) (frames : (g.state y.store).frames ≡ (g.state x.store).frames) (acts : (g.state x.store).acts ≤ (g.state y.store).acts) where
+    (format : (g.state y.store).format ≡ (g.state x.store).format) (frames : (g.state y.store).frames ≡ (g.state x.store).frames) (acts : (g.state x.store).acts ≤ (g.state y.store).acts) where
   abbrev st : State
   st = g.state x.store
 
@@ -284,9 +284,9 @@ module _ {S : Type 0} (g : Ghosts S) (start : Entry → Bool) (session least_roo
   inserting was_there key_was used_up tall op is f blocks root fault h = h
 
   -- if it isn't told whether the entry was there, and of its key only that the index is unique
-  any_was : (was_there : Bool) (key_was : Row → Bool) (used_up tall : Bool) → ((row : Row) → key_was row ≡ true → (g.state y.store).limits.unique ≡ true)
+  any_was : (was_there : Bool) (key_was : Row → Bool) (used_up tall : Bool) → ((row : Row) → key_was row ≡ true → (g.state y.store).format.unique ≡ true)
       → (fault : Fault) → HasCause (causes_of_inserted g session least_room was_there key_was used_up tall (here_at x) y.store) fault
-      → HasCause (causes_of_inserted g session least_room true (λ r. (g.state y.store).limits.unique) used_up tall (here_at x) y.store) fault
+      → HasCause (causes_of_inserted g session least_room true (λ r. (g.state y.store).format.unique) used_up tall (here_at x) y.store) fault
   any_was was_there key_was used_up tall unique Exists h = refl
   any_was was_there key_was used_up tall unique (KeyExists row) h = unique row h
   any_was was_there key_was used_up tall unique fault h = h
@@ -349,8 +349,8 @@ module _ {S : Type 0} (g : Ghosts S) (start : Entry → Bool) (session least_roo
   AnswersNothing answer op = (fault : Fault) → fault_of answer ≡ Some fault → ((g.state y.store).pages ≡ st.pages) × ((g.state y.store ≡ op_after_call op st) ⊎ (g.state y.store ≡ st))
 
   -- another row of the key is there on a unique index only
-  unique_still : (e : Entry) (row : Row) → other_row_is_there st e row ≡ true → (g.state y.store).limits.unique ≡ true
-  unique_still e row h = ap (λ (f : Format). f.unique) limits ∙ (other_row_is st e row h).0
+  unique_still : (e : Entry) (row : Row) → other_row_is_there st e row ≡ true → (g.state y.store).format.unique ≡ true
+  unique_still e row h = ap (λ (f : Format). f.unique) format ∙ (other_row_is st e row h).0
 
   insert_came : (counts_full : Bool) (e : Entry) (op : InsertOp) → op.session ≡ session → InsertInvariant st op → (answer : Answer) → AnswersNothing answer (Insert op)
       → IsCaused (causes_of_inserting st (g.backing x.store) (g.backing y.store) op.session op.entry op.at) answer
@@ -362,7 +362,7 @@ module _ {S : Type 0} (g : Ghosts S) (start : Entry → Bool) (session least_roo
   insert_came full e op is f (Added a None) same c = tt
   insert_came full e op is f (Added a (Some fault)) same c =
       narrower_once (causes_of_inserting st (g.backing x.store) (g.backing y.store) op.session op.entry op.at)
-      (causes_of_inserted g session least_room true (λ r. (g.state y.store).limits.unique) no_block (is_tall (g.state y.store)) (here_at x) y.store)
+      (causes_of_inserted g session least_room true (λ r. (g.state y.store).format.unique) no_block (is_tall (g.state y.store)) (here_at x) y.store)
       (λ k h. any_was (entry_on_live_leaf st.pages op.entry) (other_row_is_there st op.entry) no_block (is_tall (g.state y.store)) (unique_still op.entry) k
       (inserting (entry_on_live_leaf st.pages op.entry) (other_row_is_there st op.entry) no_block (is_tall (g.state y.store)) op is f
       (used (takes_block_at st op.at) (blocks_after session op st (g.state y.store) is (same fault refl).1)) (tall (splits_root_at st op.at) (same fault refl).0) k h)) fault c
@@ -408,7 +408,7 @@ module _ {S : Type 0} (g : Ghosts S) (start : Entry → Bool) (session least_roo
       let caused : IsCaused (causes_of_stepped x.sets r.0 (g.state x.store) (g.backing x.store) (g.backing y.store)) answer =
       subst (λ (o : Option (Option Op)). IsCaused (causes_of_moving g x.sets x.store y.store Steps o) answer) r.1 does.also.caused in
       let left = told_after r.0 answer (g.state x.store) (g.state y.store) (slot_of x.slots session) (slot_of y.slots session) slot does.also.always.refused does.also.always.tells.unfinished in
-      let came = op_came g start session least_room x y fits room does.also.quiet.limits does.also.quiet.frames acts_on r.0
+      let came = op_came g start session least_room x y fits room does.also.quiet.format does.also.quiet.frames acts_on r.0
       (r.2.runs.session ∙ r.2.is.session_is) r.2.runs.fits answer (λ fault told. (pages_stay fault told, left fault told)) caused in
       let number : Option ℕ = start_number (g.state x.store) session in
       subst (λ (o : Option Op). IsCaused (causes_of_asked g session least_room number (is_full_vacuum o) call.ask (here_at x) y.store) answer) (sym slot)
@@ -462,7 +462,7 @@ module _ {S : Type 0} (g : Ghosts S) (session least_room : ℕ) (old mid : Store
 
   pub asked_wider : (number : Option ℕ) (full wide : Bool) (ask : Ask) → (AsksToCount ask → full ≡ true → wide ≡ true)
       → IsNarrower (causes_of_asked g session least_room number full ask mid new) (causes_of_asked g session least_room number wide ask old new)
-  asked_wider number full wide (AskInsert e) more = inserted_wider true (λ r. (g.state new).limits.unique) (has_no_block session number (g.state new)) (is_tall (g.state new))
+  asked_wider number full wide (AskInsert e) more = inserted_wider true (λ r. (g.state new).format.unique) (has_no_block session number (g.state new)) (is_tall (g.state new))
   asked_wider number full wide (AskScan range) more = gone_wider false false (λ f. f)
   asked_wider number full wide ask more = gone_wider full wide (more tt)
 
@@ -515,23 +515,23 @@ called_wider g session request old at vacuums none has_none SessionBusy h = absu
 called_wider g session request old at vacuums none has_none fault h = h
 
 -- the call's end leaves of all this what was
-pub gone_behind : {S : Type 0} (g : Ghosts S) (session least_room : ℕ) (full : Bool) (old : StoreAndSlots S) (mid new : S)
+pub gone_after : {S : Type 0} (g : Ghosts S) (session least_room : ℕ) (full : Bool) (old : StoreAndSlots S) (mid new : S)
     → g.backing new ≡ g.backing mid → (g.state new).acts ≡ (g.state mid).acts → (g.state new).frames ≡ (g.state mid).frames
     → causes_of_gone g session least_room full old new ≡ causes_of_gone g session least_room full old mid
-gone_behind g session least_room full old mid new backing acts frames = rw (backing, acts, frames) refl
+gone_after g session least_room full old mid new backing acts frames = rw (backing, acts, frames) refl
 
 pub asked_after : {S : Type 0} (g : Ghosts S) (session least_room : ℕ) (number : Option ℕ) (full : Bool) (ask : Ask) (old : StoreAndSlots S) (mid new : S) → LeavesAll g session mid new
     → causes_of_asked g session least_room number full ask old new ≡ causes_of_asked g session least_room number full ask old mid
 asked_after g session least_room number full (AskInsert e) old mid new leaves =
-    ap (λ (no_block : Bool). causes_of_inserted g session least_room true (λ r. (g.state new).limits.unique) no_block (is_tall (g.state new)) old new)
-    (blocks_same session number (g.state mid) (g.state new) leaves.state.limits leaves.state.pages leaves.state.counted (leaves.numbers number))
-    ∙ behind (has_no_block session number (g.state mid))
+    ap (λ (no_block : Bool). causes_of_inserted g session least_room true (λ r. (g.state new).format.unique) no_block (is_tall (g.state new)) old new)
+    (blocks_same session number (g.state mid) (g.state new) leaves.state.format leaves.state.pages leaves.state.counted (leaves.numbers number))
+    ∙ leaves_same (has_no_block session number (g.state mid))
   where
-    behind : (no_block : Bool) → causes_of_inserted g session least_room true (λ r. (g.state new).limits.unique) no_block (is_tall (g.state new)) old new
-        ≡ causes_of_inserted g session least_room true (λ r. (g.state mid).limits.unique) no_block (is_tall (g.state mid)) old mid
-    behind no_block = rw (leaves.backing, leaves.state.acts, leaves.state.frames, leaves.state.limits, leaves.state.pages) refl
-asked_after g session least_room number full (AskScan range) old mid new leaves = gone_behind g session least_room false old mid new leaves.backing leaves.state.acts leaves.state.frames
-asked_after g session least_room number full ask old mid new leaves = gone_behind g session least_room full old mid new leaves.backing leaves.state.acts leaves.state.frames
+    leaves_same : (no_block : Bool) → causes_of_inserted g session least_room true (λ r. (g.state new).format.unique) no_block (is_tall (g.state new)) old new
+        ≡ causes_of_inserted g session least_room true (λ r. (g.state mid).format.unique) no_block (is_tall (g.state mid)) old mid
+    leaves_same no_block = rw (leaves.backing, leaves.state.acts, leaves.state.frames, leaves.state.format, leaves.state.pages) refl
+asked_after g session least_room number full (AskScan range) old mid new leaves = gone_after g session least_room false old mid new leaves.backing leaves.state.acts leaves.state.frames
+asked_after g session least_room number full ask old mid new leaves = gone_after g session least_room full old mid new leaves.backing leaves.state.acts leaves.state.frames
 
 -- asking a scan for its next entry alone isn't refused
 pub next_caused : (at : Circumstances) (sets : DeadSets) (op : Op) (range : Range) (answer : Answer) → asked_of sets op ≡ AskScan range → AnswersNext (Some op) answer → IsCaused at answer

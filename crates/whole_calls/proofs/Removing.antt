@@ -213,31 +213,31 @@ live_few Live (Downlinks v) = omega arith
 live_few HalfDead items = omega arith
 live_few Deleted items = omega arith
 
-all_few : (limits : Format) (block : ℕ) (pages : List Page) → limits.items ≤ 50 → AreStored limits block pages → length (all_entries pages) ≤ 50 * length pages
+all_few : (format : Format) (block : ℕ) (pages : List Page) → format.items ≤ 50 → AreStored format block pages → length (all_entries pages) ≤ 50 * length pages
 unfolding all_entries
-all_few limits block [] low stored = omega arith
-all_few limits block (page ∷ pages) low stored =
+all_few format block [] low stored = omega arith
+all_few format block (page ∷ pages) low stored =
     let a = length-append (live_entries page.state page.items) (all_entries pages) in
     let here = live_few page.state page.items in
     let few = stored.0.storable.few in
-    let rest = all_few limits (suc block) pages low stored.1 in
+    let rest = all_few format (suc block) pages low stored.1 in
     omega (arith, a, here, few, rest, low)
 
-one_few : (limits : Format) (block : ℕ) (pages : List Page) (i : ℕ) → limits.items ≤ 50 → AreStored limits block pages → entry_count (slice_get pages i) ≤ 50
-one_few limits block [] i low stored = omega arith
-one_few limits block (page ∷ pages) zero low stored = (let here = live_few page.state page.items in let few = stored.0.storable.few in omega (arith, here, few, low))
-one_few limits block (page ∷ pages) (suc i) low stored = one_few limits (suc block) pages i low stored.1
+one_few : (format : Format) (block : ℕ) (pages : List Page) (i : ℕ) → format.items ≤ 50 → AreStored format block pages → entry_count (slice_get pages i) ≤ 50
+one_few format block [] i low stored = omega arith
+one_few format block (page ∷ pages) zero low stored = (let here = live_few page.state page.items in let few = stored.0.storable.few in omega (arith, here, few, low))
+one_few format block (page ∷ pages) (suc i) low stored = one_few format (suc block) pages i low stored.1
 
-below_few : (limits : Format) (pages : List Page) (n : ℕ) → limits.items ≤ 50 → AreStored limits 0 pages → n ≤ length pages → entries_below pages n ≤ 50 * n
-below_few limits pages zero low stored within = omega arith
-below_few limits pages (suc n) low stored within =
-    let here = one_few limits 0 pages n low stored in
-    let rest = below_few limits pages n low stored (omega (arith, within)) in
+below_few : (format : Format) (pages : List Page) (n : ℕ) → format.items ≤ 50 → AreStored format 0 pages → n ≤ length pages → entries_below pages n ≤ 50 * n
+below_few format pages zero low stored within = omega arith
+below_few format pages (suc n) low stored within =
+    let here = one_few format 0 pages n low stored in
+    let rest = below_few format pages n low stored (omega (arith, within)) in
     omega (arith, here, rest)
 
-pub entries_few : (limits : Format) (pages : List Page) (n : ℕ) → limits.items ≤ 50 → AreStored limits 0 pages → entries_below pages n ≤ 50 * length pages
-entries_few limits pages zero low stored = omega arith
-entries_few limits pages (suc n) low stored = of (slice_get pages n) (entries_few limits pages n low stored) refl
+pub entries_few : (format : Format) (pages : List Page) (n : ℕ) → format.items ≤ 50 → AreStored format 0 pages → entries_below pages n ≤ 50 * length pages
+entries_few format pages zero low stored = omega arith
+entries_few format pages (suc n) low stored = of (slice_get pages n) (entries_few format pages n low stored) refl
   where
     of : (o : Option Page) → entries_below pages n ≤ 50 * length pages → slice_get pages n ≡ o → entries_below pages (suc n) ≤ 50 * length pages
     of None rest at =
@@ -245,14 +245,14 @@ entries_few limits pages (suc n) low stored = of (slice_get pages n) (entries_fe
         omega (arith, none, rest)
     of (Some page) rest at =
         let within = get_within pages n page at in
-        let all = below_few limits pages (suc n) low stored (omega (arith, within)) in
+        let all = below_few format pages (suc n) low stored (omega (arith, within)) in
         omega (arith, all, within)
 
 -- what was removed of these pages' entries is not more than they have
-pub removed_few : (limits : Format) (pages : List Page) (gone : List Entry) → limits.items ≤ 50 → AreStored limits 0 pages
+pub removed_few : (format : Format) (pages : List Page) (gone : List Entry) → format.items ≤ 50 → AreStored format 0 pages
     → IsDistinct same_entry gone → ((e : Entry) → is_among gone e ≡ true → entry_on_live_leaf pages e ≡ true)
     → length gone ≤ 50 * length pages
-removed_few limits pages gone low stored once were =
-    let all = all_few limits 0 pages low stored in
+removed_few format pages gone low stored once were =
+    let all = all_few format 0 pages low stored in
     let few = length-le_from_is_member entries_compare gone (all_entries pages) once (λ e h. member_is (all_entries pages) e ∙ among_all pages e ∙ were e (sym (member_is gone e) ∙ h)) in
     omega (arith, all, few)

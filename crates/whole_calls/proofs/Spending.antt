@@ -31,7 +31,7 @@ acts_low st (Some (Bulk set op)) = omega arith
 acts_low st (Some (Cleanup op)) = omega arith
 
 -- there are fewer steps than are counted
-pub steps_few : {S : Type 0} (g : Ghosts S) (laws : Laws g) (start : Entry → Bool) (now : Moment S) (session : ℕ) → Fits g start now → (g.state now.store).limits.pages ≤ 65536
+pub steps_few : {S : Type 0} (g : Ghosts S) (laws : Laws g) (start : Entry → Bool) (now : Moment S) (session : ℕ) → Fits g start now → (g.state now.store).format.pages ≤ 65536
     → steps_left (g.state now.store) (slot_of now.slots session) < 18446744073709551615
 steps_few g laws start now session fits low =
     let work = work_bounded g start now fits low session in
@@ -88,7 +88,7 @@ same_left old new ask added same = refl
 -- a step that goes on leaves fewer
 module _ {S : Type 0} (g : Ghosts S) (start : Entry → Bool) (session : ℕ) (x y : Moment S) (honest : (g.backing y.store).honest ≡ true)
     (fits : Fits g start x) (does : EventDoes g start (MovesCall session Steps) Going x y)
-    (low : (g.state x.store).limits.pages ≤ 65536) where
+    (low : (g.state x.store).format.pages ≤ 65536) where
   abbrev old : State
   old = g.state x.store
 
@@ -98,8 +98,8 @@ module _ {S : Type 0} (g : Ghosts S) (start : Entry → Bool) (session : ℕ) (x
   abbrev fewer_left : Type 0
   fewer_left = steps_left now (slot_of y.slots session) < steps_left old (slot_of x.slots session)
 
-  low_now : now.limits.pages ≤ 65536
-  low_now = subst (λ (l : Format). l.pages ≤ 65536) (sym does.also.quiet.limits) low
+  low_now : now.format.pages ≤ 65536
+  low_now = subst (λ (l : Format). l.pages ≤ 65536) (sym does.also.quiet.format) low
 
   -- the step leaves less
   less_by : OwesLess (slot_of x.slots session) old now → work_in now (slot_of y.slots session) < work_in old (slot_of x.slots session)
@@ -110,19 +110,19 @@ module _ {S : Type 0} (g : Ghosts S) (start : Entry → Bool) (session : ℕ) (x
       → acts_left old (slot_of x.slots session) ≡ left_by old c.call.ask c.call.added
       → acts_left now (slot_of y.slots session) ≡ left_by now c.call.ask (add_after c.call.added (suc (length x.history)) effect)
       → fewer_left
-  goes_by c op None anew ask history asked flags before behind =
+  goes_by c op None anew ask history asked flags before then_left =
       let same : y.history ≡ x.history = history ∙ append-nil x.history in
       let acts : now.acts ≡ old.acts = does.means.explains.count ∙ ap (λ (l : List Action). length l) same ∙ sym fits.explains.count in
       let weighs : weight now ≡ weight old = ap (λ (ps : List Page). weight_up_to (nodes_of ps) (length ps)) (does.also.quiet.pages same) in
       let left : left_by now c.call.ask c.call.added ≡ left_by old c.call.ask c.call.added = same_left old now c.call.ask c.call.added weighs in
       let less = less_by (owes (slot_of x.slots session) old now acts) in
-      omega (arith, left, less, before, behind)
-  goes_by c op (Some e) anew ask history asked flags before behind =
+      omega (arith, left, less, before, then_left)
+  goes_by c op (Some e) anew ask history asked flags before then_left =
       let fewer = acts_fewer (contents_after start x.history) x.sets op c.call.added (length x.history) e old now anew
       (subst (λ (a : Ask). IsAsked (contents_after start x.history) a c.call.added (Some e)) ask asked) flags in
       let was : acts_left old (slot_of x.slots session) ≡ left_by old (asked_of x.sets op) c.call.added = before ∙ ap (λ (a : Ask). left_by old a c.call.added) ask in
       let is : acts_left now (slot_of y.slots session) ≡ left_by now (asked_of x.sets op) (add_after c.call.added (suc (length x.history)) (Some e)) =
-      behind ∙ ap (λ (a : Ask). left_by now a (add_after c.call.added (suc (length x.history)) (Some e))) ask in
+      then_left ∙ ap (λ (a : Ask). left_by now a (add_after c.call.added (suc (length x.history)) (Some e))) ask in
       let work = work_bounded g start y (fits_after does) low_now session in
       omega (arith, fewer, was, is, work)
 
@@ -138,16 +138,16 @@ module _ {S : Type 0} (g : Ghosts S) (start : Entry → Bool) (session : ℕ) (x
       let ask : c.call.ask ≡ asked_of x.sets r.0 = ap (λ (k : Call). k.ask) (sym same) ∙ r.2.runs.ask in
       let slot : slot_of x.slots session ≡ Some r.0 = ap (λ (o : Option (Option Op)). unwrap_or o None) r.1 in
       let before : acts_left old (slot_of x.slots session) ≡ left_by old c.call.ask c.call.added = slot_left g start x session c.number c.call old fits c.is in
-      let behind : acts_left now (slot_of y.slots session) ≡ left_by now c.call.ask (add_after c.call.added (suc (length x.history)) c.effect) =
+      let then_left : acts_left now (slot_of y.slots session) ≡ left_by now c.call.ask (add_after c.call.added (suc (length x.history)) c.effect) =
       slot_left g start y session c.number c.after now (fits_after does) runs ∙ ap (λ (k : Call). left_by now k.ask k.added) c.told in
-      by r.0 slot ask before behind
+      by r.0 slot ask before then_left
     where
       by : (op : Op) → slot_of x.slots session ≡ Some op → c.call.ask ≡ asked_of x.sets op → acts_left old (slot_of x.slots session) ≡ left_by old c.call.ask c.call.added
           → acts_left now (slot_of y.slots session) ≡ left_by now c.call.ask (add_after c.call.added (suc (length x.history)) c.effect) → fewer_left
-      by (Insert op) slot ask before behind = goes_by c (Insert op) c.effect tt ask c.history_is c.asked (subst (λ (a : Ask). MovesShape a c.effect old now) ask c.shape) before behind
-      by (Scan op) slot ask before behind = goes_by c (Scan op) c.effect tt ask c.history_is c.asked (subst (λ (a : Ask). MovesShape a c.effect old now) ask c.shape) before behind
-      by op slot ask before behind =
-          let none : acts_left now (slot_of y.slots session) ≡ 0 = behind ∙ ap (λ (a : Ask). left_by now a (add_after c.call.added (suc (length x.history)) c.effect)) ask in
+      by (Insert op) slot ask before then_left = goes_by c (Insert op) c.effect tt ask c.history_is c.asked (subst (λ (a : Ask). MovesShape a c.effect old now) ask c.shape) before then_left
+      by (Scan op) slot ask before then_left = goes_by c (Scan op) c.effect tt ask c.history_is c.asked (subst (λ (a : Ask). MovesShape a c.effect old now) ask c.shape) before then_left
+      by op slot ask before then_left =
+          let none : acts_left now (slot_of y.slots session) ≡ 0 = then_left ∙ ap (λ (a : Ask). left_by now a (add_after c.call.added (suc (length x.history)) c.effect)) ask in
           let less = less_by (subst (λ (o : Option Op). OwesLess o old now) (sym slot) tt) in
           omega (arith, none, less)
 

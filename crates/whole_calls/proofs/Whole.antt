@@ -47,7 +47,7 @@ module _ {S : Type 0} {g : Ghosts S} (laws : Laws g) {start : Entry → Bool} {s
   counted what follows = finish.gone.counted what (begun.counts what follows)
 
   -- it had room to count more
-  has_room : AreLimits (g.state y.store).limits → AsksToCount (asked_by x.sets request) → is_full_vacuum (slot_of last.slots session) ≡ true → false ≡ true
+  has_room : AreLimits (g.state y.store).format → AsksToCount (asked_by x.sets request) → is_full_vacuum (slot_of last.slots session) ≡ true → false ≡ true
   has_room are counts full = of request runs begun.told.history_is counts counted
     where
       of : (req : Request) → IsRunningCall y.calls session number (first_call session req x) → y.history ≡ x.history → AsksToCount (asked_by x.sets req)
@@ -60,13 +60,13 @@ module _ {S : Type 0} {g : Ghosts S} (laws : Laws g) {start : Entry → Bool} {s
       of ToCleanup is history asks so = cleanup_fills g laws start session y fits_y are last finish.gone (so of_cleanup tt) full
 
   -- why it is refused, told from the moment before it
-  caused : AreLimits (g.state y.store).limits → IsCaused (causes_of_asked g session least_room (Some (g.state x.store).begun) false (asked_by x.sets request) (here_at x) z.store) answer
+  caused : AreLimits (g.state y.store).format → IsCaused (causes_of_asked g session least_room (Some (g.state x.store).begun) false (asked_by x.sets request) (here_at x) z.store) answer
   caused are =
       let far = finish.gone.far number call runs in
       let then_call = noted_after call (length y.history) far.0 in
       let then_runs = gone_runs number call far.0 y last last far.1 session runs in
       let up_to = lasts_then first finish.gone.lasts in
-      let behind = later_of laws finish.lasts in
+      let then_later = later_of laws finish.lasts in
       let full = is_full_vacuum (slot_of last.slots session) in
       let asked : then_call.ask ≡ call.ask = same_ask call (length y.history) far.0 in
       let number_is : start_number (g.state last.store) session ≡ Some (g.state x.store).begun =
@@ -74,7 +74,7 @@ module _ {S : Type 0} {g : Ghosts S} (laws : Laws g) {start : Entry → Bool} {s
       let came = subst (λ (a : Ask).
       IsCaused (causes_of_asked g session least_room (start_number (g.state last.store) session) full a (here_at last) z.store) answer) asked (finish.step.caused number then_call then_runs) in
       let came_so = subst (λ (n : Option ℕ). IsCaused (causes_of_asked g session least_room n full call.ask (here_at last) z.store) answer) number_is came in
-      cause_wider _ _ (asked_wider g session least_room (here_at x) (here_at last) z.store (later_of laws up_to) behind.failures
+      cause_wider _ _ (asked_wider g session least_room (here_at x) (here_at last) z.store (later_of laws up_to) then_later.failures
       (busier_of up_to) (Some (g.state x.store).begun) full false call.ask (has_room are)) answer came_so
 
   -- what it tells at its end
@@ -88,7 +88,7 @@ module _ {S : Type 0} {g : Ghosts S} (laws : Laws g) {start : Entry → Bool} {s
       subst (λ (st : State). StatsCountFor (asked_by x.sets request) st stats) (sym same)
       (subst (λ (a : Ask). StatsCountFor a (g.state z.store) stats) asked (finish.step.stats number then_call then_runs stats finished))
 
-  pub has_run : AreLimits (g.state y.store).limits → HasCompleted g session least_room request answer added start x w
+  pub has_run : AreLimits (g.state y.store).format → HasCompleted g session least_room request answer added start x w
   has_run are = record {
     here = z;
     fits = out.fits;

@@ -19,16 +19,16 @@ use Rattle.whole_calls.specs.declared.inserted.Inserted.{Inserted}
 -- the log's room is as an event asks: a checkpoint is made only if there is room for fewer images than these;
 -- a step only if there is room for `least_room`, or the whole room; and nothing else is done for the store
 abbrev pub HasItsRoom : ℕ → Kind → Format → Backing → Type 0
-HasItsRoom least_room (MaintainsStore Checkpoints) limits backing = backing.room < least_room
-HasItsRoom least_room (MaintainsStore upkeep) limits backing = ⊥
-HasItsRoom least_room (MovesCall session Steps) limits backing = RoomIsMade least_room limits backing
-HasItsRoom least_room kind limits backing = Unit {0}
+HasItsRoom least_room (MaintainsStore Checkpoints) format backing = backing.room < least_room
+HasItsRoom least_room (MaintainsStore upkeep) format backing = ⊥
+HasItsRoom least_room (MovesCall session Steps) format backing = RoomIsMade least_room format backing
+HasItsRoom least_room kind format backing = Unit {0}
 
 -- these events are made one after the other, with these answers, each when the log's room is as it asks
 abbrev pub AreMade : {S : Type 0} → Ghosts S → ℕ → List Event → List Answer → StoreAndSlots S → StoreAndSlots S → Type 0
 AreMade g least_room [] [] first last = first ≡ last
 AreMade {S} g least_room (event ∷ events) (answer ∷ answers) first last =
-    HasItsRoom least_room (kind_of event) (g.state first.store).limits (g.backing first.store)
+    HasItsRoom least_room (kind_of event) (g.state first.store).format (g.backing first.store)
     × ((next : StoreAndSlots S) × EventEffect g (kind_of event) answer first next × AreMade g least_room events answers next last)
 AreMade g least_room [] (answer ∷ answers) first last = ⊥
 AreMade g least_room (event ∷ events) [] first last = ⊥

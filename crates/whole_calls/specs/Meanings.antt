@@ -154,14 +154,14 @@ NextMeans session request answer old new =
 
 -- what an insert answers to this fault: if its entry is added, the fault stands in `unfinished`; else it is
 -- refused
-abbrev pub left_behind : Option ℕ → Fault → Result Inserted Fault
-left_behind (Some action) fault = Ok (record { action = action; unfinished = Some fault })
-left_behind None fault = Err fault
+abbrev pub outcome_at_fault : Option ℕ → Fault → Result Inserted Fault
+outcome_at_fault (Some action) fault = Ok (record { action = action; unfinished = Some fault })
+outcome_at_fault None fault = Err fault
 
 -- what an insert answers that came to this, by the number of its Add, if it still runs and has one
 abbrev pub outcome_of : Answer → Option ℕ → Result Inserted Fault
 outcome_of (Added action unfinished) added = Ok (record { action = action; unfinished = unfinished })
-outcome_of (Refused fault) added = left_behind added fault
+outcome_of (Refused fault) added = outcome_at_fault added fault
 outcome_of answer added = Err NoSession
 
 -- `count` changes of the pages' shape, by the call of this number
@@ -182,9 +182,9 @@ IsEndOf inserted ending = (ending ≡ EndsAdded inserted.action inserted.unfinis
 -- it the insert has changed the shape of the pages only.
 pub record IsAddedNow {S : Type 0} (session : ℕ) (entry : Entry) (inserted : Inserted) (old new : Moment S) : Type 0 where
   pub before : ℕ
-  pub behind : ℕ
+  pub shapes_after : ℕ
   pub ending : Ending
-  pub history_is : new.history ≡ old.history ++ shapes (length old.calls) before ++ (record { by = length old.calls; effect = Add entry }) ∷ shapes (length old.calls) behind
+  pub history_is : new.history ≡ old.history ++ shapes (length old.calls) before ++ (record { by = length old.calls; effect = Add entry }) ∷ shapes (length old.calls) shapes_after
   pub action_is : inserted.action ≡ suc (before + length old.history)
   pub end_is : IsEndOf inserted ending
   pub calls_is : new.calls ≡ old.calls ++ inserted_call session entry (length old.history) inserted.action ending (length new.history) ∷ []
@@ -210,4 +210,4 @@ room_outcome (Err fault) = Some (Refused fault)
 
 -- there is room for `least` images, or the log is empty
 abbrev pub RoomIsMade : ℕ → Format → Backing → Type 0
-RoomIsMade least limits backing = (least ≤ backing.room) ⊎ LogIsClosed limits backing
+RoomIsMade least format backing = (least ≤ backing.room) ⊎ LogIsClosed format backing

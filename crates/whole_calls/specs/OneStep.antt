@@ -90,7 +90,7 @@ OneStepComesTo answer answers =
 
 -- the step itself, if the log has room for `least_room` images
 pub record IsStepMade {S : Type 0} (g : Ghosts S) (session least_room : ℕ) (answer : Answer) (old new : StoreAndSlots S) : Type 0 where
-  pub room : RoomIsMade least_room (g.state old.store).limits (g.backing old.store)
+  pub room : RoomIsMade least_room (g.state old.store).format (g.backing old.store)
   pub makes : EventEffect g (MovesCall session Steps) answer old new
 
 -- a checkpoint before a step, if the log has too little room

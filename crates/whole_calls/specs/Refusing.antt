@@ -82,7 +82,7 @@ is_tall st = nat_le 31 (root_level st.pages)
 -- there; no block can be had while it runs; the root is on level 31.
 abbrev pub causes_of_asked : {S : Type 0} → Ghosts S → ℕ → ℕ → Option ℕ → Bool → Ask → StoreAndSlots S → S → Circumstances
 causes_of_asked g session least_room number counts_full (AskInsert e) old new =
-    causes_of_inserted g session least_room true (λ r. (g.state new).limits.unique) (has_no_block session number (g.state new)) (is_tall (g.state new)) old new
+    causes_of_inserted g session least_room true (λ r. (g.state new).format.unique) (has_no_block session number (g.state new)) (is_tall (g.state new)) old new
 causes_of_asked g session least_room number counts_full (AskScan range) old new = causes_of_gone g session least_room false old new
 causes_of_asked g session least_room number counts_full (AskBulkDelete dead) old new = causes_of_gone g session least_room counts_full old new
 causes_of_asked g session least_room number counts_full AskCleanup old new = causes_of_gone g session least_room counts_full old new
@@ -111,7 +111,7 @@ InsertCallIsCaused g session least_room entry old new (Ok inserted) =
     IsFaultCaused (causes_of_inserted g session least_room false (λ r. false) (has_no_block session (Some (g.state old.store).begun) (g.state new)) (is_tall (g.state new)) old new) inserted.unfinished
 InsertCallIsCaused g session least_room entry old new (Err fault) =
     HasCause (causes_of_called g session (ToInsert entry) old
-    (causes_of_inserted g session least_room true (λ r. (g.state new).limits.unique) (has_no_block session (Some (g.state old.store).begun) (g.state new)) (is_tall (g.state new)) old new)) fault
+    (causes_of_inserted g session least_room true (λ r. (g.state new).format.unique) (has_no_block session (Some (g.state old.store).begun) (g.state new)) (is_tall (g.state new)) old new)) fault
 
 -- what the session's running scan came to had its cause
 abbrev pub ScanIsCaused : {S : Type 0} → Ghosts S → ℕ → ℕ → Answer → Moment S → Moment S → Type 0

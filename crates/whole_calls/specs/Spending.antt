@@ -30,4 +30,4 @@ steps_left st slot = acts_left st slot * 4398046511104 + work_in st slot
 -- if the call goes on, within limits that are allowed, fewer steps are left
 abbrev pub TakesFewer : State → State → Option Op → Option Op → Answer → Type 0
 TakesFewer old new before after answer =
-    old.limits.pages ≤ 65536 → answer ≡ Going → steps_left new after < steps_left old before
+    old.format.pages ≤ 65536 → answer ≡ Going → steps_left new after < steps_left old before

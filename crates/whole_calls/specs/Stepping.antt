@@ -58,7 +58,7 @@ pub record StepIsRun {S : Type 0} (g : Ghosts S) (session least_room : ℕ) (ans
 pub record HasReached {S : Type 0} (g : Ghosts S) (session : ℕ) (old new : Moment S) : Type 0 where
   pub lasts : Lasts g session old new
   pub sets_are : new.sets ≡ old.sets
-  pub limits_are : (g.state new.store).limits ≡ (g.state old.store).limits
+  pub format_is : (g.state new.store).format ≡ (g.state old.store).format
   pub numbers : (g.state new.store).running ≡ (g.state old.store).running
   pub far : HasRunSoFar session old new
   pub counted : (what : Followed) → IsCountedAs what old.sets (g.state old.store) (slot_of old.slots session) → IsCountedAs what old.sets (g.state new.store) (slot_of new.slots session)

@@ -25,7 +25,7 @@ ghost use Rattle.whole_calls.specs.OneStep.{MakesRoom};
 ghost use Rattle.whole_calls.specs.Parts.{RunsUnlessLast};
 ghost use Rattle.whole_calls.specs.Refusing.{InsertCallIsCaused};
 ghost use Rattle.whole_calls.specs.Stepping.{RoomMeans, BeginIsRun, StepIsRun, FinishIsRun, RequestIsRun};
-ghost use Rattle.whole_calls.specs.Meanings.{RoomIsMade, MayAnswer, MayComeTo, EndMeans, left_behind, outcome_of, begun_of, begin_outcome, room_outcome};
+ghost use Rattle.whole_calls.specs.Meanings.{RoomIsMade, MayAnswer, MayComeTo, EndMeans, outcome_at_fault, outcome_of, begun_of, begin_outcome, room_outcome};
 
 use crate::inserted::Inserted;
 use index_model::{DeadRows, Entry, Fault};
@@ -48,7 +48,7 @@ pub(crate) fn make_room<S: PageStore>(store: &mut S, least_room: u32) -> Result<
         → MakesRoom S.PageStore least_room result
         (here_with store.old slots sets) (here_with store.new slots sets) }
     ensures room { OnOk result
-        (RoomIsMade least_room (S.state store.old).limits (S.backing store.new)) }
+        (RoomIsMade least_room (S.state store.old).format (S.backing store.new)) }
     // An act of four images, the most that one has, is not refused with `LogFull` then.
     ensures promise { OnOk result (5 ≤ least_room → 5 ≤ (S.backing store.new).promised) }
     ensures state { S.state store.new ≡ S.state store.old }
@@ -82,7 +82,7 @@ pub(crate) fn step<S: PageStore, T: DeadRows>(
     ensures made { IsMadeOf S.PageStore session least_room (StepComesTo result)
         (here T.DeadRows store.old calls.old sets.now)
         (here T.DeadRows store.new calls.new sets.now) }
-    ensures limits { (S.state store.new).limits ≡ (S.state store.old).limits }
+    ensures format { (S.state store.new).format ≡ (S.state store.old).format }
     ensures calm { OnlyWritersAct (op_of calls.old session) (S.state store.old)
         (S.state store.new) }
     ensures less { (S.backing store.new).honest ≡ true
@@ -171,7 +171,7 @@ pub fn begin<S: PageStore, T: DeadRows>(
     ensures cause { IfErr result
         (HasCause (causes_of_begun_at S.PageStore store.old (one_vacuums calls.old.slots.items)
         (map T.is_in sets.now) request (slice_get calls.old.slots.items session))) }
-    ensures limits { (S.state store.new).limits ≡ (S.state store.old).limits }
+    ensures format { (S.state store.new).format ≡ (S.state store.old).format }
 {
     nothing_is_counted();
     begun(schedule::begin(store, calls, sets, session, request))
@@ -228,7 +228,7 @@ pub(crate) fn run_call<S: PageStore, T: DeadRows>(
 // What an insert answers to this fault. If its entry is added, the fault stands in `unfinished`. Else the
 // insert is refused.
 fn refused(added: Option<u64>, fault: Fault) -> Result<Inserted, Fault>
-    ensures { result ≡ left_behind added fault }
+    ensures { result ≡ outcome_at_fault added fault }
 {
     match added {
         Some(action) => Ok(Inserted {
@@ -265,7 +265,7 @@ pub fn give_up<S: PageStore, T: DeadRows>(
     ensures pages { (S.state store.new).pages ≡ (S.state store.old).pages }
     ensures begun { (S.state store.new).begun ≡ (S.state store.old).begun }
     ensures acts { (S.state store.new).acts ≡ (S.state store.old).acts }
-    ensures limits { (S.state store.new).limits ≡ (S.state store.old).limits }
+    ensures format { (S.state store.new).format ≡ (S.state store.old).format }
     ensures frames { (S.state store.new).frames ≡ (S.state store.old).frames }
     // What the call held is let go, if it has one.
     ensures state { S.state store.new

@@ -71,9 +71,9 @@ impl<T: Ticket> Lesson<T, QueueView> for Pops {
 }
 
 /// One part is cut off for a worker's pass, and comes back with what it has popped.
-pub struct Parts;
+pub struct QueueParts;
 
-impl Split<QueueView> for Parts {
+impl Split<QueueView> for QueueParts {
     ghost use Rattle.std.specs.Prelude.{[], ◌-◌};
     ghost use Rattle.worker_seats.specs.Queue.{queue_view};
 
@@ -82,7 +82,7 @@ impl Split<QueueView> for Parts {
     ghost right = { λ v. queue_view 1 v.pushed [] };
 }
 
-impl Join<QueueView> for Parts {
+impl Join<QueueView> for QueueParts {
     ghost use Rattle.std.specs.Prelude.{[], ◌+◌, ◌++◌};
     ghost use Rattle.worker_seats.specs.Queue.{queue_view};
 

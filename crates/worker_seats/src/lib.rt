@@ -19,7 +19,7 @@ mod worker;
 pub use desk::Desk;
 pub use hand::{Telling, Told};
 pub use job_queue::{
-    JobQueue, Parts, Pops, Pushes, QueuePass, QueueRule, QueueView, Ticket, fill, make_queue,
+    JobQueue, Pops, Pushes, QueueParts, QueuePass, QueueRule, QueueView, Ticket, fill, make_queue,
 };
 pub use run::Run;
 pub use seat::{Seat, check, end, open, start};

@@ -6,7 +6,7 @@ ghost use Rattle.worker_seats.specs.Seats.{known_by};
 ghost use Rattle.worker_seats.specs.Queue.{jobs_in, sum_over, weigh};
 
 use crate::hand::Telling;
-use crate::job_queue::{JobQueue, Parts, QueuePass, Ticket};
+use crate::job_queue::{JobQueue, QueueParts, QueuePass, Ticket};
 use crate::run::Run;
 use crate::seat::Seat;
 
@@ -56,7 +56,7 @@ pub fn gather<J: Run, T: Ticket, H: Telling + Drop>(
             pass: other,
             hand,
         } = worker;
-        queue.absorb::<Parts>(pass, other);
+        queue.absorb::<QueueParts>(pass, other);
         seats.push_reserved(seat);
         hands.push_reserved(hand);
     }

@@ -12,11 +12,11 @@ use Rattle.schedule.specs.TheoremMoments.{RunsOne}
 use Rattle.world.specs.Worlds.{OnlyLetsGo}
 
 pub lets_nothing_go : (st : State) → OnlyLetsGo st st
-lets_nothing_go st = record { limits = refl; frames = refl; pages = refl; counted = refl; acts = refl; begun = refl }
+lets_nothing_go st = record { format = refl; frames = refl; pages = refl; counted = refl; acts = refl; begun = refl }
 
 pub lets_more_go : (first mid last : State) → OnlyLetsGo first mid → OnlyLetsGo mid last → OnlyLetsGo first last
 lets_more_go first mid last one more = record {
-  limits = more.limits ∙ one.limits;
+  format = more.format ∙ one.format;
   frames = more.frames ∙ one.frames;
   pages = more.pages ∙ one.pages;
   counted = more.counted ∙ one.counted;
@@ -27,10 +27,10 @@ lets_more_go first mid last one more = record {
 -- what a session's call lets go at its end
 over_lets_go : (slot : Option Op) (st : State) → OnlyLetsGo st (after_slot slot st)
 over_lets_go None st = lets_nothing_go st
-over_lets_go (Some (Insert op)) st = record { limits = refl; frames = refl; pages = refl; counted = refl; acts = refl; begun = refl }
-over_lets_go (Some (Scan op)) st = record { limits = refl; frames = refl; pages = refl; counted = refl; acts = refl; begun = refl }
-over_lets_go (Some (Bulk set op)) st = record { limits = refl; frames = refl; pages = refl; counted = refl; acts = refl; begun = refl }
-over_lets_go (Some (Cleanup op)) st = record { limits = refl; frames = refl; pages = refl; counted = refl; acts = refl; begun = refl }
+over_lets_go (Some (Insert op)) st = record { format = refl; frames = refl; pages = refl; counted = refl; acts = refl; begun = refl }
+over_lets_go (Some (Scan op)) st = record { format = refl; frames = refl; pages = refl; counted = refl; acts = refl; begun = refl }
+over_lets_go (Some (Bulk set op)) st = record { format = refl; frames = refl; pages = refl; counted = refl; acts = refl; begun = refl }
+over_lets_go (Some (Cleanup op)) st = record { format = refl; frames = refl; pages = refl; counted = refl; acts = refl; begun = refl }
 
 pub lets_go : (slot : Option Op) (old new : State) → new ≡ after_slot slot old → OnlyLetsGo old new
 lets_go slot old new is = subst (OnlyLetsGo old) (sym is) (over_lets_go slot old)

@@ -99,7 +99,7 @@ fresh_keyed meta leaf m l = record {
 }
 
 pub new_indexes : NewIndexesAreTrees
-new_indexes limits m made = record {
+new_indexes format m made = record {
   pages = made.meta ∷ made.leaf ∷ [];
   now = made.leaves m.seen (seen_stays m);
   leaves = made.leaves;

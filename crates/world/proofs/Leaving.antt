@@ -18,11 +18,11 @@ use Rattle.world.proofs.Opened.{tree_has_pages}
 -- one
 pub left_index : {D : Type 0} (d : DeviceGhosts D) (first now : Store D d) → IsOwnStore d first → Follows (held_by d first) (held_by d now)
     → (start : Entry → Bool) (history : List Action) → (held_by d now).acts ≡ length history
-    → ((part : ℕ) → part ≤ length history → ArePagesAfter (state_of d now).limits.unique start (take part history) (pages_after (store_history d now) part))
+    → ((part : ℕ) → part ≤ length history → ArePagesAfter (state_of d now).format.unique start (take part history) (pages_after (store_history d now) part))
     → (image : List ℕ) → MayHaveCrashedTo (held_by d first).trace (held_by d now).trace image
-    → IsIndexAfterPrefix (state_of d now).limits start history (held_by d first).durable image
+    → IsIndexAfterPrefix (state_of d now).format start history (held_by d first).durable image
 left_index d first now own follows start history count parts image left =
-    let r = leaves_first (held_by d first) (held_by d now) own follows now.held.limits image now.held.log_limits left in
+    let r = leaves_first (held_by d first) (held_by d now) own follows now.held.format image now.held.log_format left in
     let within : r.part ≤ length history = omega (arith, r.to, count) in
     let are = parts r.part within in
     record {

@@ -41,9 +41,9 @@ none_runs : (start : ℕ) → IsStart (replicate 64 None) start → ⊥
 none_runs start is = (let none : Some start ≡ None = sym (ap (λ (o : Option (Option ℕ)). unwrap_or o None) is.is) ∙ all_same 64 is.session None in cc)
 
 -- pages that are a tree, of a unique index keyed, each stored and counted, are in order as they are opened
-opened_unused : (limits : Format) (frames : ℕ) (pages : List Page) (counted : List ℕ) (last_cycle : ℕ) → IsTreeFor limits pages → AreStored limits 0 pages → length counted ≡ length pages
-    → ((block : ℕ) → slice_index counted block ≡ 0) → IsUnused (opened_state limits frames pages counted last_cycle)
-opened_unused limits frames pages counted last_cycle tree stored count none = record {
+opened_unused : (format : Format) (frames : ℕ) (pages : List Page) (counted : List ℕ) (last_cycle : ℕ) → IsTreeFor format pages → AreStored format 0 pages → length counted ≡ length pages
+    → ((block : ℕ) → slice_index counted block ≡ 0) → IsUnused (opened_state format frames pages counted last_cycle)
+opened_unused format frames pages counted last_cycle tree stored count none = record {
   order = record {
     tree = record {
       tree = tree.0;
@@ -51,7 +51,7 @@ opened_unused limits frames pages counted last_cycle tree stored count none = re
       counted = count;
       within = λ block. (let zero_is = none block in omega arith);
       lead = λ start is. absurd (none_runs start is);
-      unique = λ asked. unique_of limits pages stored (tree.1 asked);
+      unique = λ asked. unique_of format pages stored (tree.1 asked);
     };
     apart = λ session other block ne holds. ap (λ (h : Holding). latches_exclude h.latches block Exclusive) (held_by_none other);
     holdings = refl;
@@ -63,14 +63,14 @@ opened_unused limits frames pages counted last_cycle tree stored count none = re
 }
 
 -- a state as it is opened is unused, if its pages are a tree
-pub freshly_unused : (frames : ℕ) (st : State) → IsFreshlyOpened frames st → IsTreeFor st.limits st.pages → IsUnused st
+pub freshly_unused : (frames : ℕ) (st : State) → IsFreshlyOpened frames st → IsTreeFor st.format st.pages → IsUnused st
 freshly_unused frames st opened tree =
-    subst IsUnused (sym opened.is) (opened_unused st.limits frames st.pages _ _ tree opened.stored (length-replicate (length st.pages) 0) (none_counts (length st.pages)))
+    subst IsUnused (sym opened.is) (opened_unused st.format frames st.pages _ _ tree opened.stored (length-replicate (length st.pages) 0) (none_counts (length st.pages)))
 
 -- what was opened is a tree, if it was one
-pub tree_opened : (limits found : Format) (pages read : List Page) → found ≡ limits → read ≡ pages → IsTreeFor limits pages → IsTreeFor found read
-tree_opened limits found pages read format same tree =
-    subst (λ (f : Format). IsTreeFor f read) (sym format) (subst (λ (ps : List Page). IsTreeFor limits ps) (sym same) tree)
+pub tree_opened : (format found : Format) (pages read : List Page) → found ≡ format → read ≡ pages → IsTreeFor format pages → IsTreeFor found read
+tree_opened format found pages read is same tree =
+    subst (λ (f : Format). IsTreeFor f read) (sym is) (subst (λ (ps : List Page). IsTreeFor format ps) (sym same) tree)
 
 -- a tree has pages
 pub tree_has_pages : (pages : List Page) → IsTree pages → 0 < length pages

@@ -11,13 +11,13 @@ use Rattle.tree_acts.specs.TheoremKeys.{IsTreeFor}
 
 -- what is seen now, and whatever a crash leaves, is an index of the same pages: a B-link tree, keyed if it is
 -- unique, with no entry on it
-pub record CrashesToEmptyTree (limits : Format) (m : DiskMoment) : Type 0 where
+pub record CrashesToEmptyTree (format : Format) (m : DiskMoment) : Type 0 where
   pub pages : List Page
-  pub now : HasIndex limits pages m.seen
-  pub leaves : (image : List ℕ) → MayCrashTo m image → HasIndex limits pages image
-  pub tree : IsTreeFor limits pages
+  pub now : HasIndex format pages m.seen
+  pub leaves : (image : List ℕ) → MayCrashTo m image → HasIndex format pages image
+  pub tree : IsTreeFor format pages
   pub empty : (e : Entry) → entry_on_live_leaf pages e ≡ false
 
 -- the pages of an index that was made are such a tree
 abbrev pub NewIndexesAreTrees : Type 0
-NewIndexesAreTrees = (limits : Format) (m : DiskMoment) → CrashesToEmpty limits m → CrashesToEmptyTree limits m
+NewIndexesAreTrees = (format : Format) (m : DiskMoment) → CrashesToEmpty format m → CrashesToEmptyTree format m

@@ -13,44 +13,44 @@ use Rattle.page_store.specs.declared.store.Store.{Store}
 use Rattle.recovery.specs.Index.{HasIndex}
 use Rattle.schedule.specs.TheoremCrashes.{ArePagesAfter}
 use Rattle.world.specs.Worlds.{WorldFits, WorldKeeps}
-use Rattle.world.specs.declared.opening.NotOpened.{NotOpened}
+use Rattle.world.specs.declared.opening.WorldNotOpened.{WorldNotOpened}
 use Rattle.world.specs.declared.world.World.{World}
 
 -- these bytes are an index whose pages are a B-link tree, with the contents after a prefix of the history of
 -- at least so many actions
-pub record IsIndexAfterPrefix (limits : Format) (start : Entry → Bool) (history : List Action) (least : ℕ) (image : List ℕ) : Type 0 where
+pub record IsIndexAfterPrefix (format : Format) (start : Entry → Bool) (history : List Action) (least : ℕ) (image : List ℕ) : Type 0 where
   pub part : ℕ
   pub from : least ≤ part
   pub to : part ≤ length history
   pub pages : List Page
-  pub index : HasIndex limits pages image
-  pub are : ArePagesAfter limits.unique start (take part history) pages
+  pub index : HasIndex format pages image
+  pub are : ArePagesAfter format.unique start (take part history) pages
 
--- a world of these limits, fitted by the contents of these pages, no action and no call, which keeps that
+-- a world of this format, fitted by the contents of these pages, no action and no call, which keeps that
 -- history
-pub record BeginsWith {D T : Type 0} (d : DeviceGhosts D) (g : Ghosts (Store D d)) (rows : SetGhosts T) (limits : Format) (pages : List Page) (world : World (Store D d) T) : Type 0 where
-  pub limits_are : (state_of d world.store).limits ≡ limits
+pub record BeginsWith {D T : Type 0} (d : DeviceGhosts D) (g : Ghosts (Store D d)) (rows : SetGhosts T) (format : Format) (pages : List Page) (world : World (Store D d) T) : Type 0 where
+  pub format_is : (state_of d world.store).format ≡ format
   pub fits : WorldFits g rows world (entry_on_live_leaf pages) [] []
   pub keeps : WorldKeeps g rows world (entry_on_live_leaf pages) [] []
 
 -- the device as an open left it, in the world or given back
-abbrev pub world_device : {D T : Type 0} (d : DeviceGhosts D) → Result (World (Store D d) T) (NotOpened D T) → D
+abbrev pub world_device : {D T : Type 0} (d : DeviceGhosts D) → Result (World (Store D d) T) (WorldNotOpened D T) → D
 world_device d (Ok world) = device_of d world.store
 world_device d (Err not_opened) = not_opened.device
 
 -- the world begins with the pages of an index that hold the contents after a prefix of the history, of at
 -- least so many actions
-pub record BeginsAfterPrefix {D T : Type 0} (d : DeviceGhosts D) (g : Ghosts (Store D d)) (rows : SetGhosts T) (limits : Format)
+pub record BeginsAfterPrefix {D T : Type 0} (d : DeviceGhosts D) (g : Ghosts (Store D d)) (rows : SetGhosts T) (format : Format)
     (start : Entry → Bool) (history : List Action) (least : ℕ) (world : World (Store D d) T) : Type 0 where
   pub part : ℕ
   pub from : least ≤ part
   pub to : part ≤ length history
   pub pages : List Page
-  pub are : ArePagesAfter limits.unique start (take part history) pages
-  pub begins : BeginsWith d g rows limits pages world
+  pub are : ArePagesAfter format.unique start (take part history) pages
+  pub begins : BeginsWith d g rows format pages world
 
 -- the world begins with the pages of an empty index
-pub record BeginsEmpty {D T : Type 0} (d : DeviceGhosts D) (g : Ghosts (Store D d)) (rows : SetGhosts T) (limits : Format) (world : World (Store D d) T) : Type 0 where
+pub record BeginsEmpty {D T : Type 0} (d : DeviceGhosts D) (g : Ghosts (Store D d)) (rows : SetGhosts T) (format : Format) (world : World (Store D d) T) : Type 0 where
   pub pages : List Page
   pub empty : (e : Entry) → entry_on_live_leaf pages e ≡ false
-  pub begins : BeginsWith d g rows limits pages world
+  pub begins : BeginsWith d g rows format pages world

@@ -53,7 +53,7 @@ WorldStillFits g rows world start history calls = (then_history : List Action) �
 
 -- the pages, the sizes and the counts of a store are as they were: only what its sessions held may be let go
 pub record OnlyLetsGo (old new : State) : Type 0 where
-  pub limits : new.limits ≡ old.limits
+  pub format : new.format ≡ old.format
   pub frames : new.frames ≡ old.frames
   pub pages : new.pages ≡ old.pages
   pub counted : new.counted ≡ old.counted

@@ -10,6 +10,6 @@ mod sets;
 mod world;
 
 pub use laws::new_indexes_are_trees;
-pub use opening::NotOpened;
+pub use opening::WorldNotOpened;
 pub use sets::NotPut;
-pub use world::{NotMade, World};
+pub use world::{World, WorldNotMade};

@@ -11,7 +11,7 @@ ghost use Rattle.recovery.specs.Opening.{AreFrames, IsFreshlyOpened, IsNoMemoryO
 ghost use Rattle.tree_acts.specs.TheoremKeys.{IsTreeFor};
 ghost use Rattle.world.specs.Reopening.{BeginsWith, world_device};
 
-use crate::world::{NotMade, World};
+use crate::world::{World, WorldNotMade};
 use device::Device;
 use index_model::{DeadRows, Fault};
 use page_action::PageStore;
@@ -21,7 +21,7 @@ use std::alloc::Global;
 
 /// Why a world was not opened, with the device as the open left it and the sets as they were.
 #[derive(Drop)]
-pub struct NotOpened<D, T> {
+pub struct WorldNotOpened<D, T> {
     pub fault: Fault,
     pub device: D,
     pub sets: Vec<T>,
@@ -39,7 +39,7 @@ impl<D: Device, T: DeadRows + Drop> World<Store<D>, T> {
         frames: u32,
         sessions: u32,
         sets: Vec<T>,
-    ) -> Result<World<Store<D>, T>, NotOpened<D, T>>
+    ) -> Result<World<Store<D>, T>, WorldNotOpened<D, T>>
         ensures sessions { IfOk result (λ world. length world.calls.slots.items ≡ sessions) }
         ensures frames { IfOk result (λ world.
             IsFreshlyOpened frames (state_of D.Device world.store)) }
@@ -50,16 +50,16 @@ impl<D: Device, T: DeadRows + Drop> World<Store<D>, T> {
         // want of memory or of the device.
         ensures begins { IsTrue (D.is_honest (world_device D.Device result))
             → AreFrames frames → 1 ≤ sessions → sessions ≤ 64
-            → (limits : Format) (pages : List Page)
-            → HasIndex limits pages (D.trace device).now.seen → IsTreeFor limits pages
+            → (format : Format) (pages : List Page)
+            → HasIndex format pages (D.trace device).now.seen → IsTreeFor format pages
             → MatchResult result
-            (BeginsWith D.Device ⟦<Store<D> as PageStore>⟧ T.DeadRows limits pages)
+            (BeginsWith D.Device ⟦<Store<D> as PageStore>⟧ T.DeadRows format pages)
             (λ not_opened. IsNoMemoryOrIo not_opened.fault) }
         // A crash at each moment since leaves the same index, whatever was answered.
         ensures moments { IsTrue (D.is_honest (world_device D.Device result))
-            → (limits : Format) (pages : List Page)
-            → HasIndex limits pages (D.trace device).now.seen
-            → AtEachMoment (CrashesToPages limits pages) (D.trace device)
+            → (format : Format) (pages : List Page)
+            → HasIndex format pages (D.trace device).now.seen
+            → AtEachMoment (CrashesToPages format pages) (D.trace device)
             (D.trace (world_device D.Device result)) }
         ensures len { length (D.trace (world_device D.Device result)).now.seen
             ≡ length (D.trace device).now.seen }
@@ -72,7 +72,7 @@ impl<D: Device, T: DeadRows + Drop> World<Store<D>, T> {
             (D.trace not_opened.device) not_opened.fault) }
     {
         if sessions == 0 || sessions > 64 {
-            return Err(NotOpened {
+            return Err(WorldNotOpened {
                 fault: Fault::BadLimits,
                 device,
                 sets,
@@ -81,7 +81,7 @@ impl<D: Device, T: DeadRows + Drop> World<Store<D>, T> {
         let store = match open(alloc, device, frames) {
             Ok(store) => store,
             Err(Refused { fault, device }) => {
-                return Err(NotOpened {
+                return Err(WorldNotOpened {
                     fault,
                     device,
                     sets,
@@ -90,7 +90,7 @@ impl<D: Device, T: DeadRows + Drop> World<Store<D>, T> {
         };
         match World::new(alloc, store, sessions, sets) {
             Ok(world) => Ok(world),
-            Err(NotMade { fault, store, sets }) => Err(NotOpened {
+            Err(WorldNotMade { fault, store, sets }) => Err(WorldNotOpened {
                 fault,
                 device: store.into_device(),
                 sets,

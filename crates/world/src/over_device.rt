@@ -34,7 +34,7 @@ impl<D: Device, T: DeadRows + Drop> World<Store<D>, T> {
             → ⟦<Store<D> as PageStore>⟧.leaves s t image }
         ensures restarts { (s : Store D D.Device) (image : List ℕ) (pages : List Page)
             → ⟦<Store<D> as PageStore>⟧.restarts s image pages
-            → RestartsTo (state_of D.Device s).limits image pages }
+            → RestartsTo (state_of D.Device s).format image pages }
         // What a crash at some moment since an own store has left of a world that is fitted and keeps its
         // history is an index that can be opened again, with all that was durable in that store.
         ensures index { (first : Store D D.Device)
@@ -45,7 +45,7 @@ impl<D: Device, T: DeadRows + Drop> World<Store<D>, T> {
             → (image : List ℕ)
             → MayHaveCrashedTo (held_by D.Device first).trace
             (held_by D.Device self.now.store).trace image
-            → IsIndexAfterPrefix (state_of D.Device self.now.store).limits start history
+            → IsIndexAfterPrefix (state_of D.Device self.now.store).format start history
             (backing_of (held_by D.Device first)).durable image }
         // ... and so is what a crash now leaves.
         ensures now { (start : Entry → Bool) (history : List Action) (calls : List Call)
@@ -53,7 +53,7 @@ impl<D: Device, T: DeadRows + Drop> World<Store<D>, T> {
             → WorldFits ⟦<Store<D> as PageStore>⟧ T.DeadRows self.now start history calls
             → WorldKeeps ⟦<Store<D> as PageStore>⟧ T.DeadRows self.now start history calls
             → MayCrashTo (held_by D.Device self.now.store).trace.now image
-            → IsIndexAfterPrefix (state_of D.Device self.now.store).limits start history
+            → IsIndexAfterPrefix (state_of D.Device self.now.store).format start history
             (backing_of (held_by D.Device self.now.store)).durable image }
     {}
 

@@ -37,7 +37,7 @@ pub struct World<S, T> {
 
 /// Why a world was not made, with the store and the sets as they were.
 #[derive(Drop)]
-pub struct NotMade<S, T> {
+pub struct WorldNotMade<S, T> {
     pub fault: Fault,
     pub store: S,
     pub sets: Vec<T>,
@@ -76,7 +76,7 @@ impl<S: PageStore, T: DeadRows + Drop> World<S, T> {
         store: S,
         sessions: u32,
         sets: Vec<T>,
-    ) -> Result<World<S, T>, NotMade<S, T>>
+    ) -> Result<World<S, T>, WorldNotMade<S, T>>
         ensures store { IfOk result (λ world. world.store ≡ store) }
         ensures sessions { IfOk result (λ world. length world.calls.slots.items ≡ sessions) }
         ensures sets { IfOk result (λ world. world.sets ≡ sets) }
@@ -98,7 +98,7 @@ impl<S: PageStore, T: DeadRows + Drop> World<S, T> {
     {
         match Calls::new(alloc, sessions) {
             Ok(calls) => Ok(World { store, calls, sets }),
-            Err(fault) => Err(NotMade { fault, store, sets }),
+            Err(fault) => Err(WorldNotMade { fault, store, sets }),
         }
     }
 

@@ -37,9 +37,9 @@ use Rattle.nardsill.proofs.nardsill_proved_call.Code.Mir as steps
 use Rattle.std.proofs.raw_atomic.Walks.{proved_at, leaves}
 use Rattle.nardsill.specs.contracts.handle.Handle as inner
 use Rattle.nardsill.specs.contracts.ask.Ask as ask
-use Rattle.nardsill.specs.contracts.answer.Answer as answer
+use Rattle.nardsill.specs.contracts.answer.CallAnswer as answer
 use Rattle.nardsill.proofs.ask.Ask.TheLaws as ask_laws
-use Rattle.nardsill.proofs.answer.Answer.TheLaws as answer_laws
+use Rattle.nardsill.proofs.answer.CallAnswer.TheLaws as answer_laws
 use Rattle.nardsill.specs.contracts.calls.serve as callee
 use Rattle.nardsill.proofs.calls.serve.Met.{met}
 use Rattle.nardsill.specs.contracts.nardsill_proved_call.{ended, clauses}

@@ -37,9 +37,9 @@ use Rattle.std.proofs.raw_atomic.Walks.{proved_at, leaves}
 use Rattle.nardsill.specs.contracts.handle.Handle as inner
 use Rattle.std.specs.contracts.fs.File as file
 use Rattle.nardsill.specs.contracts.ask.MakeAsk as ask
-use Rattle.nardsill.specs.contracts.answer.Answer as answer
+use Rattle.nardsill.specs.contracts.answer.CallAnswer as answer
 use Rattle.nardsill.proofs.ask.MakeAsk.TheLaws as ask_laws
-use Rattle.nardsill.proofs.answer.Answer.TheLaws as answer_laws
+use Rattle.nardsill.proofs.answer.CallAnswer.TheLaws as answer_laws
 use Rattle.nardsill.specs.contracts.making.make as callee
 use Rattle.nardsill.proofs.making.make.Met.{met}
 use Rattle.nardsill.specs.contracts.nardsill_proved_make.{ended, clauses}

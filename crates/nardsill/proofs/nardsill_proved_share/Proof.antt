@@ -36,9 +36,9 @@ use Rattle.nardsill.proofs.nardsill_proved_share.Code.Mir as steps
 use Rattle.std.proofs.raw_atomic.Walks.{proved_at, leaves}
 use Rattle.nardsill.specs.contracts.handle.Handle as inner
 use Rattle.nardsill.specs.contracts.ask.OpenAsk as ask
-use Rattle.nardsill.specs.contracts.answer.Answer as answer
+use Rattle.nardsill.specs.contracts.answer.CallAnswer as answer
 use Rattle.nardsill.proofs.ask.OpenAsk.TheLaws as ask_laws
-use Rattle.nardsill.proofs.answer.Answer.TheLaws as answer_laws
+use Rattle.nardsill.proofs.answer.CallAnswer.TheLaws as answer_laws
 use Rattle.nardsill.specs.contracts.sharing.share as callee
 use Rattle.nardsill.proofs.sharing.share.Met.{met}
 use Rattle.nardsill.specs.contracts.nardsill_proved_share.{ended, clauses}

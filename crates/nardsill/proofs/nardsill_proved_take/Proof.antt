@@ -37,9 +37,9 @@ use Rattle.std.proofs.raw_atomic.Walks.{proved_at, leaves}
 use Rattle.nardsill.specs.contracts.handle.Handle as inner
 use Rattle.nardsill.specs.contracts.opening.OpenFiles as file
 use Rattle.nardsill.specs.contracts.ask.OpenAsk as ask
-use Rattle.nardsill.specs.contracts.answer.Answer as answer
+use Rattle.nardsill.specs.contracts.answer.CallAnswer as answer
 use Rattle.nardsill.proofs.ask.OpenAsk.TheLaws as ask_laws
-use Rattle.nardsill.proofs.answer.Answer.TheLaws as answer_laws
+use Rattle.nardsill.proofs.answer.CallAnswer.TheLaws as answer_laws
 use Rattle.nardsill.specs.contracts.opening.take as callee
 use Rattle.nardsill.proofs.opening.take.Met.{met}
 use Rattle.nardsill.specs.contracts.nardsill_proved_take.{ended, clauses}

@@ -36,7 +36,7 @@ fn number_read(text: &[u8]) -> usize {
 }
 
 /// What stands after so many words, each with one space after it.
-fn behind(line: &str, words: u32) -> &str {
+fn after_words(line: &str, words: u32) -> &str {
     let mut rest = line;
     for _ in 0..words {
         rest = match rest.split_once(" ") {
@@ -86,7 +86,7 @@ fn ends_as_shown(
 ) -> Result<bool, Fail> {
     let out = ran(rt, line)?;
     let first = text(&out).lines().next().unwrap_or("");
-    Ok(first.starts_with("job 0 worker 0 from 0 to ") && is_shown(shown, behind(first, 8)))
+    Ok(first.starts_with("job 0 worker 0 from 0 to ") && is_shown(shown, after_words(first, 8)))
 }
 
 /// Whether a job of this form is read, and ends as it is shown. Marks it.

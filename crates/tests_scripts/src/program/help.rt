@@ -334,7 +334,7 @@ fn misnamed(alloc: Global, table: &str) -> Result<Option<String>, AllocError> {
         if head.is_empty() || !shown.starts_with(head.as_str()) {
             return Ok(Some(head));
         }
-        expected = behind(&expected);
+        expected = next_fault(&expected);
     }
     let head = head_of(alloc, &expected)?;
     if head.is_empty() {
@@ -345,7 +345,7 @@ fn misnamed(alloc: Global, table: &str) -> Result<Option<String>, AllocError> {
 }
 
 /// The fault after this one.
-fn behind(fault: &Option<Fault>) -> Option<Fault> {
+fn next_fault(fault: &Option<Fault>) -> Option<Fault> {
     match fault {
         Some(fault) => next(*fault),
         None => None,

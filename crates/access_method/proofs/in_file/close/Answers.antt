@@ -24,12 +24,12 @@ returns-clause-stands g c =
     let run = c.checkpoint-written.ensures.runs (sym (ap (λ x. d.is_honest x) device) ∙ honest) start history calls fits in
     let kept = (run.ran.crash keeps).keeps in
     let on = (c.checkpoint-written.ensures.steps old (follows_same (held_by d old))).grows keeps.own in
-    let same = sym store.held.log_limits ∙ on.limits ∙ old.held.log_limits in
+    let same = sym store.held.log_format ∙ on.format ∙ old.held.log_format in
     let there = subst (λ x. MayCrashTo (d.trace x).now image) device may in
     let left = left_index d store store kept.own (follows_same (held_by d store)) start run.then_history run.ran.fits.explains.count kept.parts image (left_now (held_by d store) image there) in
-    subst (λ (limits : Format). IsIndexAfterPrefix limits start history n image) same
-    (subst (λ (m : ℕ). IsIndexAfterPrefix (state_of d store).limits start history m image) (durable ∙ sym number)
-    (subst (λ (actions : List Action). IsIndexAfterPrefix (state_of d store).limits start actions (held_by d store).durable image) run.tells.history_is left)))
+    subst (λ (format : Format). IsIndexAfterPrefix format start history n image) same
+    (subst (λ (m : ℕ). IsIndexAfterPrefix (state_of d store).format start history m image) (durable ∙ sym number)
+    (subst (λ (actions : List Action). IsIndexAfterPrefix (state_of d store).format start actions (held_by d store).durable image) run.tells.history_is left)))
     c.checkpoint-written.ensures.number c.checkpoint-written.ensures.durable
 
 -- the index after the checkpoint came from it by calls of its own

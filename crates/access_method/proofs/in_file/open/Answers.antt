@@ -9,8 +9,8 @@ pub returns-in-Ok-open-clause-begins : goal.returns-in-Ok-open-clause-begins
 returns-in-Ok-open-clause-begins g c =
     let seen = ap (λ (t : Trace). t.now.seen) c.in-Ok.ensures.held in
     let same = ap g.S.Start.bytes (c.in-Ok-open.ensures.len ∙ ap length seen ∙ g.S.Start.sized _) ∙ sym seen in
-    λ honest limits pages index tree.
-    c.in-Ok-open.ensures.begins honest c.in-Ok-open.ensures.range limits pages (subst (HasIndex limits pages) same index) tree
+    λ honest format pages index tree.
+    c.in-Ok-open.ensures.begins honest c.in-Ok-open.ensures.range format pages (subst (HasIndex format pages) same index) tree
 
 pub returns-in-Err-open-clause-cause : goal.returns-in-Err-open-clause-cause
 returns-in-Err-open-clause-cause g c =

@@ -10,15 +10,15 @@ pub returns-in-Ok-open-clause-same : goal.returns-in-Ok-open-clause-same
 returns-in-Ok-open-clause-same g c =
     let seen = ap (λ (t : Trace). t.now.seen) c.in-Ok.ensures.held in
     let same = ap g.S.Start.bytes (c.in-Ok-open.ensures.len ∙ ap length seen ∙ g.S.Start.sized _) ∙ sym seen in
-    λ honest limits pages index.
-    c.in-Ok-open.ensures.same honest c.in-Ok-open.ensures.frames limits pages (subst (HasIndex limits pages) same index)
+    λ honest format pages index.
+    c.in-Ok-open.ensures.same honest c.in-Ok-open.ensures.frames format pages (subst (HasIndex format pages) same index)
 
 pub returns-in-Err-open-clause-cause : goal.returns-in-Err-open-clause-cause
 returns-in-Err-open-clause-cause g c =
     told_not_opened _ _ g.S.Start.bytes _ c.in-Err-open.refused.device c.in-Err-open.refused.fault _ _ c.not_opened.ensures.fault c.not_opened.ensures.device
     (not_opened_is _ _ g.S.Start.bytes g.S.Start.sized _ _ c.in-Ok.device _ _ c.in-Ok.ensures.held c.in-Ok.ensures.failures
     c.in-Err-open.ensures.len c.in-Err-open.ensures.cause
-    (λ honest allowed limits pages index any. c.in-Err-open.ensures.same honest allowed limits pages index))
+    (λ honest allowed format pages index any. c.in-Err-open.ensures.same honest allowed format pages index))
 
 pub returns-in-Err-open-clause-fault : goal.returns-in-Err-open-clause-fault
 returns-in-Err-open-clause-fault g c =

@@ -24,7 +24,7 @@ returns c =
     let page = page_there c.args.pages.now s.block (in_use (goal.at.returns c).Start) in
     let here : at s.block ≡ node_of page.0 = ap node_from page.1 in
     let told : IsLeastNumber (IsWrongSketch c.args.keys c.sketch.result.now c.args.root (context_at at s) s.block) c.find_number.result =
-    subst (λ (l : Option Bound). IsLeastNumber (IsWrongSketch c.args.keys c.sketch.result.now c.args.root (record { low = l; left = s.left; behind = s.behind }) s.block) c.find_number.result)
+    subst (λ (l : Option Bound). IsLeastNumber (IsWrongSketch c.args.keys c.sketch.result.now c.args.root (record { low = l; left = s.left; left_is_split = s.left_is_split }) s.block) c.find_number.result)
     c.low-low.ensures c.find_number.ensures.least in
     let least : IsLeastNumber (IsWrong c.args.keys (at s.block) c.args.root (context_at at s) s.block) c.find_number.result =
     subst (λ (n : Node). IsLeastNumber (IsWrong c.args.keys n c.args.root (context_at at s) s.block) c.find_number.result) (sym here)

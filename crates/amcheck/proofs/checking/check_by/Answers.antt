@@ -8,7 +8,7 @@ use Rattle.amcheck.proofs.checking.check_by.Goals.{In-Ok-read_pages}
 use Rattle.amcheck.proofs.checking.check_by.Goals as goal
 
 stand : (g : Over) (c : In-Ok-read_pages g) → StandAtTheirBlocks c.in-Ok-read_pages.pages
-stand g c = they_stand (g.S.PageStore.state c.args.store.now).limits c.in-Ok-read_pages.pages c.in-Ok-read_pages.ensures.read.stored
+stand g c = they_stand (g.S.PageStore.state c.args.store.now).format c.in-Ok-read_pages.pages c.in-Ok-read_pages.ensures.read.stored
 
 pub judge_chains-requires-clause-stand : goal.judge_chains-requires-clause-stand
 judge_chains-requires-clause-stand g c = stand g (goal.at.judge_chains-requires-clause-stand g c).In-Ok-read_pages

@@ -17,7 +17,7 @@ not_seven c w =
     let k : false ≡ true = c.if-has_wrong_bound.ensures.1 (subst (HasWrongBound (nodes_of c.args.pages.now) c.args.stops.now) (links_are c) w) in
     absurd cc
 
-not_eight : (c : Else-lacks_link) → LacksLink c.args.top (nodes_of c.args.pages.now c.args.stop.now.block) c.args.stop.now.behind (get_or c.args.linked.now c.args.stop.now.block false) → ⊥
+not_eight : (c : Else-lacks_link) → LacksLink c.args.top (nodes_of c.args.pages.now c.args.stop.now.block) c.args.stop.now.left_is_split (get_or c.args.linked.now c.args.stop.now.block false) → ⊥
 not_eight c w =
     let k : false ≡ true = c.if-lacks_link.ensures.1 w in
     absurd cc

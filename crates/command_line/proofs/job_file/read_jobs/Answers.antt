@@ -13,7 +13,7 @@ same_place read m n is told = cc
 pub loop-rest-init : goal.loop-rest-init
 loop-rest-init c = record {
   read = none_read (lines_of c.args.text.now) _ (search rules);
-  behind = search rules;
+  later = search rules;
   sets = search rules;
   named = search rules;
 }
@@ -39,7 +39,7 @@ loop-rest-preserved c =
     c.in_ok-set.ensures.count ∙ ap (sets_with c.loop-rest.set) (sym c.job_of-job.ensures) in
     record {
       read = rw (counted, pushed) (read_on all here lines line c.loop-rest.set jobs c.job_of-job.result first spells old.read);
-      behind = λ more. rw (counted, pushed) (after_on c.loop-rest.set jobs c.job_of-job.result old.behind more);
+      later = λ more. rw (counted, pushed) (after_on c.loop-rest.set jobs c.job_of-job.result old.later more);
       sets = c.in_ok-set.ensures.sets old.sets;
       named = named_on all here lines line c.in-Some.line (map set_words c.loop-rest.sets.items) _ first c.in-Some.ensures.words
           old.named (c.in_ok-set.ensures.sets_are c.in-Some.ensures.valid);
@@ -52,7 +52,7 @@ returns-clause-jobs c =
 
 pub returns-clause-sets : goal.returns-clause-sets
 returns-clause-sets c =
-    c.loop-rest.invariant.sets ∙ c.loop-rest.invariant.behind [] ∙ ap (sets_after 0) (append-nil c.loop-rest.jobs.items)
+    c.loop-rest.invariant.sets ∙ c.loop-rest.invariant.later [] ∙ ap (sets_after 0) (append-nil c.loop-rest.jobs.items)
 
 pub returns-clause-sets_are : goal.returns-clause-sets_are
 returns-clause-sets_are c =

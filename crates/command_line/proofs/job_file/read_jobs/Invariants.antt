@@ -11,7 +11,7 @@ decreases-loop-rest l = length l.rest
 abbrev pub invariant-loop-rest : goal.invariant-loop-rest
 invariant-loop-rest l = record {
   read : AreReadSoFar (lines_of l.text) (lines_of l.rest) l.set l.jobs.items;
-  behind : (more : List Job) → sets_after l.set more ≡ sets_after 0 (l.jobs.items ++ more);
+  later : (more : List Job) → sets_after l.set more ≡ sets_after 0 (l.jobs.items ++ more);
   sets : vec_len l.sets ≡ l.set;
   named : map set_words l.sets.items ++ all_bulk_words (lines_of l.rest) ≡ all_bulk_words (lines_of l.text);
 }

@@ -13,8 +13,8 @@ returns-in-Ok-open-clause-opened g c =
       opened = c.in-Ok-open.ensures.frames;
       sessions_are = c.in-Ok-open.ensures.sessions;
       sets_are = ap (λ sets. sets.items) c.in-Ok-open.ensures.sets;
-      begins = λ honest limits pages index tree.
-          c.in-Ok-open.ensures.begins honest c.in-Ok-open.ensures.asked.0 c.in-Ok-open.ensures.asked.1 c.in-Ok-open.ensures.asked.2 limits pages (subst (HasIndex limits pages) same index) tree;
+      begins = λ honest format pages index tree.
+          c.in-Ok-open.ensures.begins honest c.in-Ok-open.ensures.asked.0 c.in-Ok-open.ensures.asked.1 c.in-Ok-open.ensures.asked.2 format pages (subst (HasIndex format pages) same index) tree;
     }
 
 pub returns-clause-refused : goal.returns-clause-refused

@@ -7,7 +7,7 @@ use Rattle.command_line.proofs.stepping.run_call.Goals as goal
 pub loop-left-init : goal.loop-left-init
 loop-left-init g c = record {
   steps = λ first h. h;
-  limits = refl;
+  format = refl;
   sizes = record { sessions = refl; frames = refl };
   gone = gone_nowhere g.S.PageStore g.met.S.PageStore.laws g.T.DeadRows c.args.session c.args.world.now;
   within = λ honest start history calls fits. omega arith;
@@ -17,10 +17,10 @@ pub loop-left-preserved : goal.loop-left-preserved
 loop-left-preserved g c =
     let old = c.loop-left.invariant in
     let going : c.one.result ≡ Going = search rules in
-    let low = subst (λ (l : Format). l.pages ≤ 65536) (sym old.limits) c.requires.pages in
+    let low = subst (λ (l : Format). l.pages ≤ 65536) (sym old.format) c.requires.pages in
     record {
       steps = λ first h. c.one.ensures.steps first (old.steps first h);
-      limits = c.one.ensures.always.kept.limits ∙ old.limits;
+      format = c.one.ensures.always.kept.format ∙ old.format;
       sizes = record {
         sessions = c.one.ensures.same.sessions ∙ old.sizes.sessions;
         frames = c.one.ensures.always.kept.frames ∙ old.sizes.frames;

@@ -9,7 +9,7 @@ invariant-loop-left g l =
     let rows = g.T.DeadRows in
     record {
       steps : Continues store.follows l.fn.world.store l.world.store;
-      limits : (store.state l.world.store).limits ≡ (store.state l.fn.world.store).limits;
+      format : (store.state l.world.store).format ≡ (store.state l.fn.world.store).format;
       sizes : SameSizes store l.fn.world l.world;
       gone : ForEachWorldHistory store rows l.fn.world l.world (HasGoneOn store rows l.session l.fn.world l.world);
       within : ForEachWorldHistory store rows l.fn.world l.world (λ start history calls. HasStepsLeft store rows l.session l.left l.fn.world l.world);

@@ -8,8 +8,8 @@ pub returns-in-Ok-check_latch-clause-block : goal.returns-in-Ok-check_latch-clau
 returns-in-Ok-check_latch-clause-block g c some =
     let st : State = g.S.PageStore.state c.args.store.now in
     let fresh = c.in-Ok.ensures.fresh in
-    let few : st.limits.pages ≤ 65536 = c.limits-limits.ensures.allowed.pages_to in
-    let inside : c.in-Ok.block < st.limits.pages = fresh.inside in
+    let few : st.format.pages ≤ 65536 = c.limits-limits.ensures.allowed.pages_to in
+    let inside : c.in-Ok.block < st.format.pages = fresh.inside in
     (fresh_past_meta st c.in-Ok.block (g.met.S.PageStore.laws.stored c.args.store.now) some fresh, omega arith)
 
 pub returns-in-Err-clause-cause : goal.returns-in-Err-clause-cause

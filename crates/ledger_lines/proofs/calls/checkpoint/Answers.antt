@@ -9,7 +9,7 @@ returns-in-Ok-clause-stands g c honest start history calls fits keeps image may 
     let store = c.checkpoint.new.self.store in
     let run = c.checkpoint.ensures.runs honest start history calls fits in
     let kept = (run.ran.crash keeps).keeps in
-    let limits = (state_of d store).limits in
+    let format = (state_of d store).format in
     let left = left_index d store store kept.own (follows_same (held_by d store)) start run.then_history run.ran.fits.explains.count kept.parts image (left_now (held_by d store) image may) in
-    subst (λ (n : ℕ). IsIndexAfterPrefix limits start history n image) (c.in-Ok.ensures.durable ∙ sym c.in-Ok.ensures.number)
-    (subst (λ (actions : List Action). IsIndexAfterPrefix limits start actions (held_by d store).durable image) run.tells.history_is left)
+    subst (λ (n : ℕ). IsIndexAfterPrefix format start history n image) (c.in-Ok.ensures.durable ∙ sym c.in-Ok.ensures.number)
+    (subst (λ (actions : List Action). IsIndexAfterPrefix format start actions (held_by d store).durable image) run.tells.history_is left)

@@ -9,5 +9,5 @@ pub returns-in-Ok-open : goal.returns-in-Ok-open
 returns-in-Ok-open g c =
     let seen = ap (λ (t : Trace). t.now.seen) c.in-Ok.ensures.held in
     let same = ap g.S.Start.bytes (c.in-Ok-open.ensures.len ∙ ap length seen ∙ g.S.Start.sized _) ∙ sym seen in
-    λ honest limits pages index.
-    c.in-Ok-open.ensures.same honest c.in-Ok-open.ensures.frames limits pages (subst (HasIndex limits pages) same index)
+    λ honest format pages index.
+    c.in-Ok-open.ensures.same honest c.in-Ok-open.ensures.frames format pages (subst (HasIndex format pages) same index)

@@ -14,5 +14,5 @@ returns-in-Ok-open-clause-begins g c =
     ∙ c.in-Ok.ensures.held ∙ sym (ap (λ (n : ℕ). first (g.S.Start.bytes n)) len) in
     let seen = ap (λ (t : Trace). t.now.seen) held in
     let same = ap g.S.Start.bytes (c.in-Ok-open.ensures.len ∙ ap length seen ∙ g.S.Start.sized _) ∙ sym seen in
-    λ honest limits pages index tree.
-    c.in-Ok-open.ensures.begins honest c.in-Ok-open.ensures.range limits pages (subst (HasIndex limits pages) same index) tree
+    λ honest format pages index tree.
+    c.in-Ok-open.ensures.begins honest c.in-Ok-open.ensures.range format pages (subst (HasIndex format pages) same index) tree

@@ -16,9 +16,9 @@ returns-clause-found c =
     let d : Downlink = record { bound = c.in_ok-bound.bound; child = c.u32_at-child.result } in
     let found = c.in_ok-bound.ensures.found in
     let small : (i : ℕ) → get_or bytes i 0 < 256 = λ i. (c.type_inv.bytes i).fits in
-    let behind : (i : ℕ) → get_or (drop 71 bytes) i 0 < 256 = λ i. subst (λ (b : ℕ). b < 256) (sym (get_or-drop 71 bytes i 0)) (small (71 + i)) in
+    let small_after : (i : ℕ) → get_or (drop 71 bytes) i 0 < 256 = λ i. subst (λ (b : ℕ). b < 256) (sym (get_or-drop 71 bytes i 0)) (small (71 + i)) in
     let child : take 4 (drop 71 bytes) ≡ little_bytes 4 d.child =
-    sym (ap (λ (n : ℕ). little_bytes 4 n) c.u32_at-child.ensures ∙ four_again (drop 71 bytes) (omega (arith, length-drop 71 bytes, c.requires)) behind) in
+    sym (ap (λ (n : ℕ). little_bytes 4 n) c.u32_at-child.ensures ∙ four_again (drop 71 bytes) (omega (arith, length-drop 71 bytes, c.requires)) small_after) in
     (found.0, downlink_of_parts d bytes found.0 found.1 child)
 
 pub returns-clause-only : goal.returns-clause-only

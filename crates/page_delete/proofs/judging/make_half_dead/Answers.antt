@@ -34,7 +34,7 @@ module _ (g : Over) (c : After-act_on g) (honest : (g.S.PageStore.backing c.args
       let three = c.hand_on_link.ensures.count in
       omega (arith, one, two, three)
 
-  may : AreActable st.limits (length st.pages) (c.mark_half_dead.new.page ∷ c.hand_on_link.new.page ∷ [])
+  may : AreActable st.format (length st.pages) (c.mark_half_dead.new.page ∷ c.hand_on_link.new.page ∷ [])
   may = may_die_so st c.args.session c.args.leaf c.args.parent c.mark_half_dead.new.page c.hand_on_link.new.page c.args.right c.args.at c.requires.inside candidate taken c.requires.place
       c.mark_half_dead.ensures.only c.hand_on_link.ensures.block (ap (λ (p : Page). p.layout) c.hand_on_link.ensures.only)
       (c.mark_half_dead.ensures.page candidate.stored.storable.admitted candidate.may_die) (c.hand_on_link.ensures.page taken.stored.storable.admitted) fewer

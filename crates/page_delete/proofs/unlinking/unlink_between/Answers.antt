@@ -52,7 +52,7 @@ returns-in-Ok-clause-all g c =
     let honest = was_honest g at h in
     subst (λ (s : State). DeletesOn c.args.session old s) (sym (c.in-Ok.ensures.done ∙ ap (λ (n : ℕ). after_act (unlinked c.args.left c.args.page c.args.right n) old) c.begun-number.ensures))
     (does_unlink old c.args.session c.args.page c.args.right order (page_taken g at honest) c.requires.dead c.requires.right_is (right_taken g at honest) below c.args.left (left_taken g at honest)
-    (subst (λ (n : ℕ). AreActable old.limits (length old.pages) (unlinked c.args.left c.args.page c.args.right n)) c.begun-number.ensures c.in-Ok.ensures.may)))
+    (subst (λ (n : ℕ). AreActable old.format (length old.pages) (unlinked c.args.left c.args.page c.args.right n)) c.begun-number.ensures c.in-Ok.ensures.may)))
 
 pub returns-in-Err-clause-all : goal.returns-in-Err-clause-all
 returns-in-Err-clause-all g c =

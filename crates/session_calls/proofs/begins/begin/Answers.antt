@@ -12,4 +12,4 @@ pub returns-clause-counts : goal.returns-clause-counts
 returns-clause-counts g c begun =
     has_steps (g.S.PageStore.state c.args.store.now) (g.S.PageStore.state c.start.new.store) c.args.session c.args.request c.fill.new.slot
     (c.in_default.ensures.done ∙ ap (λ (v : Bool). after_request v c.args.session (g.S.PageStore.state c.args.store.now)) c.asks_bulk_delete.ensures) c.fill.ensures
-    c.start.ensures.limits c.start.ensures.few
+    c.start.ensures.format c.start.ensures.few

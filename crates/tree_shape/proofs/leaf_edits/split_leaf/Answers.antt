@@ -22,11 +22,11 @@ module _ (c : After-end_at) where
   right_is =
       c.stand_right.ensures
       ∙ ap (λ (h : Page). record c.part_entries.new.page
-      { block = c.args.new; split = false; left = Some c.part_entries.new.page.block; cycle = c.args.cycle; items = h.items }) c.part_entries.ensures.behind
+      { block = c.args.new; split = false; left = Some c.part_entries.new.page.block; cycle = c.args.cycle; items = h.items }) c.part_entries.ensures.right_part
       ∙ ap (λ (p : Page). right_leaf p c.args.new c.args.cycle back) c.part_entries.ensures.kept
 
   back_seen : c.entries_on-2.result.now ≡ back
-  back_seen = c.entries_on-2.ensures ∙ ap (λ (h : Page). entries_of h.items) c.part_entries.ensures.behind
+  back_seen = c.entries_on-2.ensures ∙ ap (λ (h : Page). entries_of h.items) c.part_entries.ensures.right_part
 
   front_seen : c.entries_on.result.now ≡ front
   front_seen = c.entries_on.ensures ∙ ap (λ (p : Page). entries_of p.items) c.part_entries.ensures.kept
@@ -70,7 +70,7 @@ module _ (c : After-entries_on-2) where
       let es = entries_of c.args.page.now.items in
       let put = insert es c.args.at c.args.entry in
       let front_read : c.entries_on.result.now ≡ take (left_count (length es)) put = c.entries_on.ensures ∙ ap (λ (p : Page). entries_of p.items) c.part_entries.ensures.kept in
-      let back_read : c.entries_on-2.result.now ≡ drop (left_count (length es)) put = c.entries_on-2.ensures ∙ ap (λ (p : Page). entries_of p.items) c.part_entries.ensures.behind in
+      let back_read : c.entries_on-2.result.now ≡ drop (left_count (length es)) put = c.entries_on-2.ensures ∙ ap (λ (p : Page). entries_of p.items) c.part_entries.ensures.right_part in
       subst IsAscending (sym (ap₂ (λ l r. l ++ r) front_read back_read))
       (ascends (renewed c.args.page.now) c.args.at c.args.entry c.seen.ensures (renewed_is_page c.args.page.now c.requires.page)
       (may_still c.args.page.now c.args.entry c.requires.may) c.requires.place c.requires.some (take (left_count (length es)) put) (drop (left_count (length es)) put) refl refl)

@@ -15,17 +15,17 @@ module _ (c : After-end_at) where
   those_are : insert (links_of c.args.page.now.items) (c.args.at + 1) (link_to c.args.separator c.args.child) ≡ those
   those_are = ap (λ at. insert (links_of c.args.page.now.items) at (link_to c.args.separator c.args.child)) (add-one c.args.at)
 
-  behind : c.part_links-behind.result.items ≡ drop count those
-  behind = c.part_links-behind.ensures.behind ∙ ap (λ l. drop count l) those_are
+  right_part : c.part_links-right_part.result.items ≡ drop count those
+  right_part = c.part_links-right_part.ensures.right_part ∙ ap (λ l. drop count l) those_are
 
-  kept : c.part_links-behind.new.page ≡ with_downlinks (renewed c.args.page.now) (take count those)
-  kept = c.part_links-behind.ensures.kept ∙ ap (λ l. with_downlinks (renewed c.args.page.now) (take count l)) those_are
+  kept : c.part_links-right_part.new.page ≡ with_downlinks (renewed c.args.page.now) (take count those)
+  kept = c.part_links-right_part.ensures.kept ∙ ap (λ l. with_downlinks (renewed c.args.page.now) (take count l)) those_are
 
   cut_is : c.begin_low-cut.result ≡ unwrap_or (bound_at (drop count those) 0) c.args.separator
-  cut_is = c.begin_low-cut.ensures.cut ∙ ap (λ l. unwrap_or (bound_at l 0) c.args.separator) behind
+  cut_is = c.begin_low-cut.ensures.cut ∙ ap (λ l. unwrap_or (bound_at l 0) c.args.separator) right_part
 
   lows : c.begin_low-cut.new.links.items ≡ from_low None (drop count those)
-  lows = c.begin_low-cut.ensures.low ∙ ap (λ l. from_low None l) behind
+  lows = c.begin_low-cut.ensures.low ∙ ap (λ l. from_low None l) right_part
 
   left_is : c.end_at.new.page ≡ left_inner (renewed c.args.page.now) c.args.new (unwrap_or (bound_at (drop count those) 0) c.args.separator) (take count those)
   left_is =

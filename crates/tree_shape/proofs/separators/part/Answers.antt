@@ -1,6 +1,6 @@
 use Rattle.std.proofs.Common.{◌≡◌, None, false, refl, subst, sym, ◌∙◌}
 use Rattle.tree_shape.proofs.Imports.{bound_of, bound_cmp, is_lt, IsKeyBefore}
-use Rattle.tree_shape.proofs.Shortest.{lies_before, stands_before, never_itself, not_behind, not_after_itself}
+use Rattle.tree_shape.proofs.Shortest.{lies_before, stands_before, never_itself, not_below, not_after_itself}
 use Rattle.tree_shape.proofs.separators.part.Goals as goal
 
 pub returns-then-lt-clause-is : goal.returns-then-lt-clause-is
@@ -11,7 +11,7 @@ returns-then-lt-clause-is c = record {
 
 pub returns-then-lt-clause-up_to : goal.returns-then-lt-clause-up_to
 returns-then-lt-clause-up_to c =
-    not_behind (bound_of c.args.last.now) (record { key = c.shortest_past.result; row = None })
+    not_below (bound_of c.args.last.now) (record { key = c.shortest_past.result; row = None })
     (stands_before c.args.last.now c.shortest_past.result c.shortest_past.ensures.greater)
 
 pub returns-then-lt-clause-beyond : goal.returns-then-lt-clause-beyond

@@ -4,7 +4,7 @@ use Rattle.whole_calls.proofs.Composing.{is_later}
 use Rattle.whole_calls.proofs.Made.{made_first}
 use Rattle.whole_calls.proofs.Given.{give_made, given_caused, gives_goes}
 use Rattle.whole_calls.proofs.Lasting.{scan_caused, scan_gives, scan_ends}
-use Rattle.whole_calls.proofs.Refusing.{gone_behind}
+use Rattle.whole_calls.proofs.Refusing.{gone_after}
 use Rattle.whole_calls.proofs.giving.give.Given.{Over}
 use Rattle.whole_calls.proofs.giving.give.Goals.{In-Ok-Some, In-Ok-None, In-Err}
 use Rattle.whole_calls.proofs.giving.give.Goals as goal
@@ -40,7 +40,7 @@ returns-in-Err-clause-cause g c honest start history calls fits number call rang
     let end = c.give_up-in-Err.ensures in
     let r = c.seek-came.ensures.goes ((is_later g.S.PageStore laws end.steps).honest honest) start history calls fits in
     let old = here g.T.DeadRows c.args.store.now c.args.calls.now c.args.sets.now in
-    rw (gone_behind g.S.PageStore c.args.session c.args.least_room false old c.seek-came.new.store c.give_up-in-Err.new.store end.backing end.acts end.frames)
+    rw (gone_after g.S.PageStore c.args.session c.args.least_room false old c.seek-came.new.store c.give_up-in-Err.new.store end.backing end.acts end.frames)
     (rw (refuses g ((goal.at.returns-in-Err-clause-cause g c).In-Err)) at (given_caused _ c.seek-came.result c.seek-came.ensures.kind (scan_caused laws r.tells number call range is ask)))
 
 pub returns-in-Ok-Some-clause-made : goal.returns-in-Ok-Some-clause-made

@@ -35,7 +35,7 @@ loop-left-preserved g c =
       sessions = went.others.sessions ∙ so_far.sessions;
       others = λ o ne. went.others.others o ne ∙ so_far.others o ne;
       goes = joined laws _ so_far.steps went.steps so_far.goes went.goes (λ xs ys none so. tt)
-          (λ start h hc k kc l lc fx fy fz one two. moved_beyond going one (record { steps = went.steps; others = went.others.others }) refl went.limits two);
+          (λ start h hc k kc l lc fx fy fz one two. moved_beyond going one (record { steps = went.steps; others = went.others.others }) refl went.format two);
       runs_on = runs_on_then (slot_of c.args.calls.now.slots.items session) (slot_of c.loop-left.calls.slots.items session) (slot_of c.step.new.calls.slots.items session) so_far.runs_on went.runs_on;
       lasts = λ runs. went.lasts (ap is_last going) (so_far.lasts runs);
       made = made_then so_far.made went.made (λ xs ys one two. (suc one.0, (let long = one.1 in omega (arith, long, c.loop-left-test.true)), steps_more one.0 c.step.result xs ys going one.2 two));

@@ -12,7 +12,7 @@ loop-left-init g c = record {
   steps = λ f h. h;
   sessions = refl;
   others = λ o ne. refl;
-  limits = refl;
+  format = refl;
   goes = goes_nowhere g.met.S.PageStore.laws reached_here;
   runs_on = runs_on_same (slot_of c.args.calls.now.slots.items c.args.session);
   made = made_nowhere (omega arith);
@@ -36,9 +36,9 @@ loop-left-preserved g c =
       steps = λ f h. went.steps f (so_far.steps f h);
       sessions = went.others.sessions ∙ so_far.sessions;
       others = λ o ne. went.others.others o ne ∙ so_far.others o ne;
-      limits = went.limits ∙ so_far.limits;
+      format = went.format ∙ so_far.format;
       goes = joined laws _ so_far.steps went.steps so_far.goes went.goes (λ xs ys none so. tt)
-          (λ start h hc k kc l lc fx fy fz one two. moved_beyond going one (record { steps = went.steps; others = went.others.others }) refl went.limits two);
+          (λ start h hc k kc l lc fx fy fz one two. moved_beyond going one (record { steps = went.steps; others = went.others.others }) refl went.format two);
       runs_on = runs_on_then (slot_of c.args.calls.now.slots.items session) (slot_of c.loop-left.calls.slots.items session) (slot_of c.step.new.calls.slots.items session) so_far.runs_on went.runs_on;
       made = made_more _ _ so_far.made (made_among went.made);
       budget = λ low honest start history calls fits. (
@@ -46,7 +46,7 @@ loop-left-preserved g c =
           let most = so_far.budget low then_honest start history calls fits in
           let r = so_far.goes then_honest start history calls fits in
           let t = went.goes honest start r.then_history r.then_calls r.ran.fits in
-          let fewer = t.tells.fewer (subst (λ (l : Format). l.pages ≤ 65536) (sym so_far.limits) low) going in
+          let fewer = t.tells.fewer (subst (λ (l : Format). l.pages ≤ 65536) (sym so_far.format) low) going in
           omega (arith, most, fewer));
     }
 

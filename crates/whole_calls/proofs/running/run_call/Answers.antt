@@ -11,7 +11,7 @@ pub returns-clause-goes : goal.returns-clause-goes
 returns-clause-goes g c =
     let laws = g.met.S.PageStore.laws in
     let end = c.give_up.ensures in
-    let are = subst (λ (l : Format). AreLimits l) (sym c.begin.ensures.limits) c.limits-limits.ensures.allowed in
+    let are = subst (λ (l : Format). AreLimits l) (sym c.begin.ensures.format) c.limits-limits.ensures.allowed in
     joined_second laws _ c.begin.ensures.steps (λ f h. end.steps f (c.finish-answer.ensures.steps f h)) (rw c.in-Ok.is at c.begin.ensures.goes)
     (joined_first laws (RunsOut g.S.PageStore c.args.session c.args.least_room c.finish-answer.result c.added-added.result)
     c.finish-answer.ensures.steps end.steps c.finish-answer.ensures.goes end.goes (λ start h hc k kc l lc fx fy fz one two. record {

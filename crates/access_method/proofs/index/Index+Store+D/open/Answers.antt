@@ -7,20 +7,20 @@ use Rattle.access_method.proofs.Seats.{same_start, same_kept}
 use Rattle.access_method.proofs.index.Index+Store+D.open.Goals as goal
 
 pub returns-in-Ok-new-clause-begins : goal.returns-in-Ok-new-clause-begins
-returns-in-Ok-new-clause-begins g c honest frames limits pages index tree =
+returns-in-Ok-new-clause-begins g c honest frames format pages index tree =
     let store = c.in-Ok.store in
     let st = state_of g.D.Device store in
-    let same = c.in-Ok.ensures.same (subst (λ (d : g.row.D.Denot). IsTrue (g.D.Device.is_honest d)) (ap (device_of g.D.Device) c.in-Ok-new.ensures.store) honest) frames limits pages index in
-    let unused : IsUnused st = freshly_unused c.args.frames st c.in-Ok.ensures.opened (tree_opened limits st.limits pages st.pages same.limits_are same.pages_are tree) in
+    let same = c.in-Ok.ensures.same (subst (λ (d : g.row.D.Denot). IsTrue (g.D.Device.is_honest d)) (ap (device_of g.D.Device) c.in-Ok-new.ensures.store) honest) frames format pages index in
+    let unused : IsUnused st = freshly_unused c.args.frames st c.in-Ok.ensures.opened (tree_opened format st.format pages st.pages same.format_is same.pages_are tree) in
     record {
-      limits_are = ap (λ s. (state_of g.D.Device s).limits) c.in-Ok-new.ensures.store ∙ same.limits_are;
+      format_is = ap (λ s. (state_of g.D.Device s).format) c.in-Ok-new.ensures.store ∙ same.format_is;
       fits = same_start _ c.in-Ok-new.index st.pages pages same.pages_are (c.in-Ok-new.ensures.fits unused);
       keeps = same_kept _ c.in-Ok-new.index st.pages pages same.pages_are (c.in-Ok-new.ensures.keeps unused same.own);
       closed = c.in-Ok-new.ensures.closed;
     }
 
 pub returns-in-Err-new-clause-begins : goal.returns-in-Err-new-clause-begins
-returns-in-Err-new-clause-begins g c honest frames limits pages index tree = inl c.in-Err-new.ensures.fault
+returns-in-Err-new-clause-begins g c honest frames format pages index tree = inl c.in-Err-new.ensures.fault
 
 -- there was no room for the calls of its sessions after an index that was opened
 pub returns-in-Err-new-clause-cause : goal.returns-in-Err-new-clause-cause
@@ -28,7 +28,7 @@ returns-in-Err-new-clause-cause g c =
     let same : c.into_device.result ≡ device_of g.D.Device c.in-Ok.store = c.into_device.ensures ∙ ap (device_of g.D.Device) c.in-Err-new.ensures.given_back in
     inr (
       inr (
-        (state_of g.D.Device c.in-Ok.store).limits,
+        (state_of g.D.Device c.in-Ok.store).format,
         c.in-Ok.ensures.frames,
         (λ honest. (c.in-Ok.ensures.read (subst (λ (d : g.row.D.Denot). IsTrue (g.D.Device.is_honest d)) same honest)).front),
         inl c.in-Err-new.ensures.fault,
@@ -37,7 +37,7 @@ returns-in-Err-new-clause-cause g c =
     )
 
 pub returns-in-Err-clause-begins : goal.returns-in-Err-clause-begins
-returns-in-Err-clause-begins g c honest frames limits pages index tree = c.in-Err.ensures.same honest frames limits pages index
+returns-in-Err-clause-begins g c honest frames format pages index tree = c.in-Err.ensures.same honest frames format pages index
 
 pub returns-in-Ok-new-clause-frames : goal.returns-in-Ok-new-clause-frames
 returns-in-Ok-new-clause-frames g c = ap (λ s. (state_of g.D.Device s).frames) c.in-Ok-new.ensures.store ∙ ap (λ (st : State). st.frames) c.in-Ok.ensures.opened.is

@@ -61,13 +61,13 @@ returns-clause-deletions g c honest start history calls fits =
     let dead = g.T.DeadRows.is_in c.args.dead.now in
     let now = snapshot_of (slots_within c.args.self.now) history calls in
     let r = goes g after honest start history calls (fits_then g after start history calls fits) in
-    let behind = snapshot_of (here_with c.bulk_delete.new.store c.bulk_delete.new.calls.slots.items (own ∷ dead ∷ [])) r.then_history r.then_calls in
+    let then_here = snapshot_of (here_with c.bulk_delete.new.store c.bulk_delete.new.calls.slots.items (own ∷ dead ∷ [])) r.then_history r.then_calls in
     record {
       deletions = r;
-      fits = fits_as g.S.PageStore start behind (own ∷ []) (λ session set op at within. sym (finds_own own dead set (within_sets g.S.PageStore start now fits session set op
+      fits = fits_as g.S.PageStore start then_here (own ∷ []) (λ session set op at within. sym (finds_own own dead set (within_sets g.S.PageStore start now fits session set op
           (runs_before c.args.self.now.calls.slots.items c.bulk_delete.new.calls.slots.items c.bulk_delete.ensures.others.others (c.bulk_delete.ensures.over c.args.self.now.agree.inserts) session set op at))))
           r.ran.fits;
-      safe = λ keeps. safe_within g.S.PageStore start now behind (own ∷ dead ∷ []) (own ∷ []) r.ran.crash keeps;
+      safe = λ keeps. safe_within g.S.PageStore start now then_here (own ∷ dead ∷ []) (own ∷ []) r.ran.crash keeps;
     }
 
 pub returns-clause-deletes : goal.returns-clause-deletes
@@ -120,10 +120,10 @@ returns-clause-fits g c honest start history calls fits =
     let dead = g.T.DeadRows.is_in c.args.dead.now in
     let now = snapshot_of (slots_within c.args.self.now) history calls in
     let r = goes g after honest start history calls (fits_then g after start history calls fits) in
-    let behind = snapshot_of (here_with c.bulk_delete.new.store c.bulk_delete.new.calls.slots.items (own ∷ dead ∷ [])) r.then_history r.then_calls in (
+    let then_here = snapshot_of (here_with c.bulk_delete.new.store c.bulk_delete.new.calls.slots.items (own ∷ dead ∷ [])) r.then_history r.then_calls in (
       r.then_history,
       r.then_calls,
-      fits_as g.S.PageStore start behind (own ∷ []) (λ session set op at within. sym (finds_own own dead set (within_sets g.S.PageStore start now fits session set op
+      fits_as g.S.PageStore start then_here (own ∷ []) (λ session set op at within. sym (finds_own own dead set (within_sets g.S.PageStore start now fits session set op
           (runs_before c.args.self.now.calls.slots.items c.bulk_delete.new.calls.slots.items c.bulk_delete.ensures.others.others (c.bulk_delete.ensures.over c.args.self.now.agree.inserts) session set op at))))
           r.ran.fits,
     )

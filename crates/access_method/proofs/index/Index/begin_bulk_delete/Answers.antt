@@ -35,8 +35,8 @@ returns-clause-opened g c =
           let now = snapshot_of (slots_within self) history calls in
           let r = begins_told (rw c.in_ok-begin.was at c.begin.ensures.goes) honest start history calls
           (fits_with g.S.PageStore start now (dead ∷ []) (none_runs self.calls.slots.items self.seats self.agree c.in_ok-at.ensures.none) fits) in
-          let behind = snapshot_of (here_with c.begin.new.store c.begin.new.calls.slots.items (dead ∷ [])) r.then_history r.then_calls in
-          record { begun = r; safe = λ keeps. safe_within g.S.PageStore start now behind (dead ∷ []) (dead ∷ []) r.ran.crash keeps });
+          let then_here = snapshot_of (here_with c.begin.new.store c.begin.new.calls.slots.items (dead ∷ [])) r.then_history r.then_calls in
+          record { begun = r; safe = λ keeps. safe_within g.S.PageStore start now then_here (dead ∷ []) (dead ∷ []) r.ran.crash keeps });
       made = made_told (rw c.in_ok-begin.was at (c.begin.ensures.made 5)) (λ xs came. inl came);
       follows = λ what may honest start history calls fits. (
           let now = snapshot_of (slots_within self) history calls in

@@ -27,12 +27,12 @@ returns-clause-ended g c session seat =
             let own = is_row_in self.rows in
             let now = snapshot_of (slots_within self) history calls in
             let r = c.give_up.ensures.goes honest start history calls fits in
-            let behind = snapshot_of (here_with c.give_up.new.store c.give_up.new.calls.slots.items (own ∷ [])) r.then_history r.then_calls in
+            let then_here = snapshot_of (here_with c.give_up.new.store c.give_up.new.calls.slots.items (own ∷ [])) r.then_history r.then_calls in
             let none = none_runs_on self.calls.slots.items c.give_up.new.calls.slots.items self.seats c.in-Some.at self.agree c.give_up.ensures.others.others c.in-Some.ensures.seat c.give_up.ensures.over in
             record {
               ended = r;
-              fits = fits_with g.S.PageStore start behind (is_row_in c.replace.new.dest ∷ []) none r.ran.fits;
-              safe = λ keeps. safe_within g.S.PageStore start now behind (own ∷ []) (is_row_in c.replace.new.dest ∷ []) r.ran.crash keeps;
+              fits = fits_with g.S.PageStore start then_here (is_row_in c.replace.new.dest ∷ []) none r.ran.fits;
+              safe = λ keeps. safe_within g.S.PageStore start now then_here (own ∷ []) (is_row_in c.replace.new.dest ∷ []) r.ran.crash keeps;
             });
         made = c.give_up.ensures.made 5;
       }),
@@ -45,6 +45,6 @@ pub returns-clause-fits : goal.returns-clause-fits
 returns-clause-fits g c honest start history calls fits =
     let self = c.args.self.now in
     let r = c.give_up.ensures.goes honest start history calls fits in
-    let behind = snapshot_of (here_with c.give_up.new.store c.give_up.new.calls.slots.items (is_row_in self.rows ∷ [])) r.then_history r.then_calls in
+    let then_here = snapshot_of (here_with c.give_up.new.store c.give_up.new.calls.slots.items (is_row_in self.rows ∷ [])) r.then_history r.then_calls in
     let none = none_runs_on self.calls.slots.items c.give_up.new.calls.slots.items self.seats c.in-Some.at self.agree c.give_up.ensures.others.others c.in-Some.ensures.seat c.give_up.ensures.over in
-    (r.then_history, r.then_calls, fits_with g.S.PageStore start behind (is_row_in c.replace.new.dest ∷ []) none r.ran.fits)
+    (r.then_history, r.then_calls, fits_with g.S.PageStore start then_here (is_row_in c.replace.new.dest ∷ []) none r.ran.fits)

@@ -8,10 +8,10 @@ pub returns-clause-all : goal.returns-clause-all
 returns-clause-all g c =
     let old : State = g.S.PageStore.state c.args.store.now in
     let meta : Page = c.view.result.now in
-    let stored : IsStored old.limits 0 meta = subst (λ (st : State). IsStored st.limits 0 meta) c.read_shared.ensures.state c.view.ensures.stored in
+    let stored : IsStored old.format 0 meta = subst (λ (st : State). IsStored st.format 0 meta) c.read_shared.ensures.state c.view.ensures.stored in
     let found : (g.S.PageStore.backing c.read_shared.new.store).honest ≡ true → slice_get old.pages 0 ≡ Some meta =
     λ honest. subst (λ (st : State). slice_get st.pages 0 ≡ Some meta) c.read_shared.ensures.state (c.view.ensures.page honest) in
-    let most : ℕ = old.limits.pages in
+    let most : ℕ = old.format.pages in
     let low : c.in-Some.position.level ≤ 255 = (let l = level_low meta stored.storable.admitted in let e = c.in-Some.ensures.level in omega arith) in
     let shorter = walk_is_long most c.in-Some.position low in
     rw c.come_to.ensures (goes_on g.S.PageStore c.args.self.now _ c.args.store.now c.read_shared.new.store c.read_shared.ensures.steps c.read_shared.ensures.state refl refl c.requires.alive

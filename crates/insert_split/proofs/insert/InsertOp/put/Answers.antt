@@ -15,7 +15,7 @@ returns-in-Ok-clause-puts g c =
         node_is = c.put.ensures.node;
         block_is = block_is;
         cycle_is = ap (λ (p : Page). p.cycle) c.put.ensures.put;
-        may = put_may st.limits (length st.pages) c.args.page.now after c.requires.stored c.requires.used c.requires.inside
+        may = put_may st.format (length st.pages) c.args.page.now after c.requires.stored c.requires.used c.requires.inside
             (ap (λ (p : Page). p.layout) c.put.ensures.put) (c.put.ensures.page c.requires.stored.storable.admitted c.requires.may c.requires.place)
             (subst (λ (p : Page). HasEntries p.items) (sym c.put.ensures.put) tt)
             (let n = c.put.ensures.count in let r = c.requires.room in omega (arith, n, r)) block_is;

@@ -58,7 +58,7 @@ returns-in-Ok-act_on_halves-clause-splits g c =
           (subst (λ (s : State). is_held_by_another s.table session c.in-Ok-take_block.new Exclusive ≡ false) read c.in-Ok-take_block.ensures.free);
       right_stored = c.in-Ok.ensures.stored;
       right_found = λ honest. c.in-Ok.ensures.found (later.honest honest);
-      may = subst (λ (s : State). AreActable s.limits (length s.pages) changed) same (c.in-Ok-act_on_halves.ensures.may left half c.read_right.new.page parted.pages_are);
+      may = subst (λ (s : State). AreActable s.format (length s.pages) changed) same (c.in-Ok-act_on_halves.ensures.may left half c.read_right.new.page parted.pages_are);
       state = c.unpin.ensures.state
           ∙ ap (λ (s : State). with_table s (unpinned s.table session c.in-Some.target.block)) (c.release.ensures.state
           ∙ ap (λ (s : State). with_table s (released s.table session c.in-Some.target.block))
@@ -99,14 +99,14 @@ returns-in-Err-act_on_halves-clause-cause g c honest room fits pinned =
     let fresh : IsFresh st half.block = subst (λ (b : ℕ). IsFresh st b) (sym is_new) (subst (λ (s : State). IsFresh s c.in-Ok-take_block.new) read c.in-Ok-take_block.ensures.fresh) in
     let block : IsBlock half.block = subst IsBlock (sym is_new)
     (c.in-Ok-take_block.ensures.block (subst (λ (s : State). 0 < length s.pages) (sym read) (let u : c.args.page.now.block < length st.pages = c.requires.used in omega arith))) in
-    let may : AreActable st.limits (length st.pages) changed = halves_may st session c.args.self.now.entry c.args.page.now left half right fits c.requires.may c.requires.some
+    let may : AreActable st.format (length st.pages) changed = halves_may st session c.args.self.now.entry c.args.page.now left half right fits c.requires.may c.requires.some
     parted.left_layout parted.half_layout parted.left_page parted.half_page parted.left_leaf parted.half_leaf
     parted.kept
     parted.moved left_block fresh block c.in-Ok.ensures.stored in
     let why : HasCause (causes_of_acting st second third changed) c.in-Err-act_on_halves.fault =
     subst (λ (b : Backing). HasCause (causes_of_acting st b third changed) c.in-Err-act_on_halves.fault) c.take_block.ensures.backing
     (subst (λ (s : State). HasCause (causes_of_acting s (g.S.PageStore.backing c.take_block.new.store) third changed) c.in-Err-act_on_halves.fault) same
-    (c.in-Err-act_on_halves.ensures.cause left half c.read_right.new.page parted.pages_are (subst (λ (s : State). AreActable s.limits (length s.pages) changed) (sym same) may))) in
+    (c.in-Err-act_on_halves.ensures.cause left half c.read_right.new.page parted.pages_are (subst (λ (s : State). AreActable s.format (length s.pages) changed) (sym same) may))) in
     let later : IsLater first second = g.met.S.PageStore.laws.follows_later _ _ (c.read_right.ensures.steps _ (g.met.S.PageStore.laws.follows_same _)) in
     let beside : List ℕ = blocks_halved st c.args.page.now.right in
     let are : map (λ (page : Page). page.block) changed ≡ c.args.page.now.block ∷ beside = halved_are st session c.args.page.now.block (fresh_block st) left half c.args.page.now.right right left_block

@@ -12,8 +12,8 @@ use Rattle.insert_split.proofs.insert.InsertOp.walk.Goals.{After-view-page}
 use Rattle.insert_split.proofs.insert.InsertOp.walk.Goals as goal
 
 -- the page that was read is stored
-stored : (g : Over) (c : After-view-page g) → IsStored (g.S.PageStore.state c.args.store.now).limits c.args.position.block c.view-page.result.now
-stored g c = subst (λ (st : State). IsStored st.limits c.args.position.block c.view-page.result.now) c.read_shared.ensures.state c.view-page.ensures.stored
+stored : (g : Over) (c : After-view-page g) → IsStored (g.S.PageStore.state c.args.store.now).format c.args.position.block c.view-page.result.now
+stored g c = subst (λ (st : State). IsStored st.format c.args.position.block c.view-page.result.now) c.read_shared.ensures.state c.view-page.ensures.stored
 
 -- ... and the one in use, if the device kept its model
 found : (g : Over) (c : After-view-page g) → (g.S.PageStore.backing c.read_shared.new.store).honest ≡ true
@@ -44,16 +44,16 @@ returns-in-Some-Going-clause-all g c =
     let on : Position = c.in-Some-Going.on in
     let result : c.lead.result ≡ Some (Going on) = c.in-Some-Going.is ∙ ap Some c.in-Some-Going.field-0-is in
     let op : InsertOp = c.args.self.now in
-    let most : c.limits.result.pages ≡ st.limits.pages = ap (λ (l : Limits). l.pages) c.limits.ensures.value ∙ ap (λ (s : State). s.limits.pages) c.read_shared.ensures.state in
+    let most : c.limits.result.pages ≡ st.format.pages = ap (λ (l : Limits). l.pages) c.limits.ensures.value ∙ ap (λ (s : State). s.format.pages) c.read_shared.ensures.state in
     let shorter : IsShorter 0 c.limits.result.pages c.args.position on = subst (DescentIsShorter 0 c.limits.result.pages c.args.position) result c.lead.ensures.less in
-    let less : way_left st.limits.pages on < way_left st.limits.pages c.args.position = way_shortens 0 st.limits.pages c.args.position on (subst (λ (n : ℕ). IsShorter 0 n c.args.position on) most shorter) in
+    let less : way_left st.format.pages on < way_left st.format.pages c.args.position = way_shortens 0 st.format.pages c.args.position on (subst (λ (n : ℕ). IsShorter 0 n c.args.position on) most shorter) in
     rw c.come_to.ensures
     (subst (λ (w : Position).
     InsertSteps g.S.PageStore op (record { session = op.session; entry = op.entry; at = Coming (At w); added = op.added }) c.args.store.now
     c.read_shared.new.store (Ok InsertGoing)) (sym c.in-Some-Going.on-is)
     (goes_on g.S.PageStore op (record { session = op.session; entry = op.entry; at = Coming (At on); added = op.added }) c.args.store.now
     c.read_shared.new.store c.read_shared.ensures.steps c.read_shared.ensures.state refl refl c.requires.alive
-    (λ honest. subst (λ (a : InsertAt). insert_left st.limits.pages st.pages (Coming (At on)) < insert_left st.limits.pages st.pages a) (sym c.requires.at) (omega (arith, less)))
+    (λ honest. subst (λ (a : InsertAt). insert_left st.format.pages st.pages (Coming (At on)) < insert_left st.format.pages st.pages a) (sym c.requires.at) (omega (arith, less)))
     (λ honest order fits.
     let led_on = led st op c.args.position c.view-page.result.now c.bound.result c.limits.result.pages c.lead.result c.requires.at order fits
     (found g (goal.at.returns-in-Some-Going-clause-all g c).After-view-page honest) (stored g (goal.at.returns-in-Some-Going-clause-all g c).After-view-page).storable.admitted
@@ -86,7 +86,7 @@ returns-else-not-may_hold-clause-all g c =
     let op : InsertOp = c.args.self.now in
     let result : c.lead.result ≡ Some Here = c.in-Some-Here.is ∙ ap Some c.in-Some-Here.field-0-is in
     let arrived = c.lead.ensures.here result in
-    let most : c.limits.result.pages ≡ st.limits.pages = ap (λ (l : Limits). l.pages) c.limits.ensures.value ∙ ap (λ (s : State). s.limits.pages) c.read_shared.ensures.state in
+    let most : c.limits.result.pages ≡ st.format.pages = ap (λ (l : Limits). l.pages) c.limits.ensures.value ∙ ap (λ (s : State). s.format.pages) c.read_shared.ensures.state in
     let later : IsLater (g.S.PageStore.backing c.read_shared.new.store) (g.S.PageStore.backing c.take.new.store) =
     g.met.S.PageStore.laws.follows_later _ _ (c.take.ensures.steps _ (g.met.S.PageStore.laws.follows_same _)) in
     let block_is : c.view-page.result.now.block ≡ c.args.position.block = (stored g (goal.at.returns-else-not-may_hold-clause-all g c).After-view-page).block_is in
@@ -116,7 +116,7 @@ returns-then-not-may_hold-clause-all g c =
     let op : InsertOp = c.args.self.now in
     let result : c.lead.result ≡ Some Here = c.in-Some-Here.is ∙ ap Some c.in-Some-Here.field-0-is in
     let arrived = c.lead.ensures.here result in
-    let most : c.limits.result.pages ≡ st.limits.pages = ap (λ (l : Limits). l.pages) c.limits.ensures.value ∙ ap (λ (s : State). s.limits.pages) c.read_shared.ensures.state in
+    let most : c.limits.result.pages ≡ st.format.pages = ap (λ (l : Limits). l.pages) c.limits.ensures.value ∙ ap (λ (s : State). s.format.pages) c.read_shared.ensures.state in
     refuses g.S.PageStore op c.args.store.now c.read_shared.new.store _ c.read_shared.ensures.steps c.read_shared.ensures.state c.requires.alive
     (λ honest order fits.
     let there = found g (goal.at.returns-then-not-may_hold-clause-all g c).After-view-page honest in
@@ -134,7 +134,7 @@ pub returns-in-None-clause-all : goal.returns-in-None-clause-all
 returns-in-None-clause-all g c =
     let st : State = g.S.PageStore.state c.args.store.now in
     let op : InsertOp = c.args.self.now in
-    let most : c.limits.result.pages ≡ st.limits.pages = ap (λ (l : Limits). l.pages) c.limits.ensures.value ∙ ap (λ (s : State). s.limits.pages) c.read_shared.ensures.state in
+    let most : c.limits.result.pages ≡ st.format.pages = ap (λ (l : Limits). l.pages) c.limits.ensures.value ∙ ap (λ (s : State). s.format.pages) c.read_shared.ensures.state in
     refuses g.S.PageStore op c.args.store.now c.read_shared.new.store _ c.read_shared.ensures.steps c.read_shared.ensures.state c.requires.alive
     (λ honest order fits.
     let led_on = led st op c.args.position c.view-page.result.now c.bound.result c.limits.result.pages c.lead.result c.requires.at order fits

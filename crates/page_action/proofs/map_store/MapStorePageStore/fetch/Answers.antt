@@ -9,7 +9,7 @@ returns-clause-in_memory c =
     let store = c.args.self.now in
     elim (slice_get_cases store.pages.items c.args.block).1 [
       | inl there ↦
-          ap (is_block_among (blocks_of store.pages.items)) (sym (stored_page store.limits c.args.block store.pages.items there.0 store.stored there.2).block_is)
+          ap (is_block_among (blocks_of store.pages.items)) (sym (stored_page store.format c.args.block store.pages.items there.0 store.stored there.2).block_is)
           ∙ among_own store.pages.items c.args.block there.0 there.2
       | inr past ↦ absurd (omega (arith, past.0))
     ]

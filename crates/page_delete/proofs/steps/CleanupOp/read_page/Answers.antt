@@ -20,7 +20,7 @@ returns-in-Err-clause-all g c =
 pub returns-clause-all : goal.returns-clause-all
 returns-clause-all g c =
     let old = g.S.PageStore.state c.args.store.now in
-    let most : c.limits-most.result.pages ≡ old.limits.pages = ap (λ (l : Limits). l.pages) c.limits-most.ensures.value ∙ ap (λ (s : State). s.limits.pages) c.read_shared.ensures.state in
+    let most : c.limits-most.result.pages ≡ old.format.pages = ap (λ (l : Limits). l.pages) c.limits-most.ensures.value ∙ ap (λ (s : State). s.format.pages) c.read_shared.ensures.state in
     descends g.S.PageStore c.args.self.now c.turn_from_page.new.self c.args.high c.args.position c.args.store.now c.read_shared.new.store c.lead-next_page.result
     c.turn_from_page.result c.requires.at c.requires.alive
     c.read_shared.ensures.steps c.read_shared.ensures.state c.if-position-eq0.false

@@ -17,9 +17,9 @@ returns-clause-all g c =
     let is : new ≡ with_table old (without_leaf old.table before.session before.leaf) =
     c.go_on.ensures.state ∙ ap (λ (st : State). with_table st (without_leaf st.table before.session before.leaf)) c.read_shared.ensures.state in
     let low : position.level < 256 = search rules in
-    let less : scan_left old.limits.pages old.pages after < scan_left old.limits.pages old.pages before =
-    subst (λ (op : ScanOp). scan_left old.limits.pages old.pages op < scan_left old.limits.pages old.pages before) (sym c.go_on.ensures.op)
-    (first_less old.limits.pages old.pages before position c.requires.at low) in
+    let less : scan_left old.format.pages old.pages after < scan_left old.format.pages old.pages before =
+    subst (λ (op : ScanOp). scan_left old.format.pages old.pages op < scan_left old.format.pages old.pages before) (sym c.go_on.ensures.op)
+    (first_less old.format.pages old.pages before position c.requires.at low) in
     record {
       steps = search rules;
       session = ap (λ (op : ScanOp). op.session) c.go_on.ensures.op;

@@ -4,7 +4,7 @@ use Rattle.page_action.specs.Stored.{IsStored}
 use Rattle.descent.proofs.Looking.{if_err}
 use Rattle.descent.specs.declared.position.NextPage.TheVariants.{Going, Here}
 use Rattle.scan.proofs.Imports.{and_parts, HasCause, is_among, IsAscending, Entry, sizes_of, Limits, pinned, entries_of, Page, State, IsLater, with_table, IsCopiedFrom, frontier_aim, IsLeafAt}
-use Rattle.scan.proofs.Imports.{LeadsTo, HasCover, place_inside, IsOnDescent, LeadsToNext, LeadsStraight, DescentIsShorter, IsShorter, IsArrived, Position, ScanAt, waiting, behind, without_leaf}
+use Rattle.scan.proofs.Imports.{LeadsTo, HasCover, place_inside, IsOnDescent, LeadsToNext, LeadsStraight, DescentIsShorter, IsShorter, IsArrived, Position, ScanAt, waiting, after_reading, without_leaf}
 use Rattle.scan.proofs.Imports.{causes_of_scanning, ScanStands, ScanInvariant, ScanWaits, IsUnderway, LeafIsRead, scan_straight_steps, ScanIsStraight, ScanCountsDown, scan_left, AtEachMoment}
 use Rattle.scan.proofs.Imports.{Ready, ScanOp}
 use Rattle.scan.proofs.Arriving.{leaf_has_entries, other_items, live_leaf, scan_has_room}
@@ -18,8 +18,8 @@ use Rattle.scan.proofs.steps.ScanOp.read.Goals.{After-view-page}
 use Rattle.scan.proofs.steps.ScanOp.read.Goals as goal
 
 -- the page that was read is stored
-stored_there : (g : Over) (c : After-view-page g) → IsStored (g.S.PageStore.state c.args.store.now).limits c.args.position.block c.view-page.result.now
-stored_there g c = subst (λ (st : State). IsStored st.limits c.args.position.block c.view-page.result.now) c.read_shared.ensures.state c.view-page.ensures.stored
+stored_there : (g : Over) (c : After-view-page g) → IsStored (g.S.PageStore.state c.args.store.now).format c.args.position.block c.view-page.result.now
+stored_there g c = subst (λ (st : State). IsStored st.format c.args.position.block c.view-page.result.now) c.read_shared.ensures.state c.view-page.ensures.stored
 
 -- ... and the one in use, if the device kept its model
 found_there : (g : Over) (c : After-view-page g) → (g.S.PageStore.backing c.read_shared.new.store).honest ≡ true
@@ -63,7 +63,7 @@ returns-in_default-clause-all g c =
     (λ honest order fits.
     let found = found_there g (goal.at.returns-in_default-clause-all g c).After-view-page honest in
     let led = scan_led old before position page c.limits-most.result c.lead.result c.requires.at order fits found
-    (c.limits-most.ensures.value ∙ ap (λ (st : State). sizes_of st.limits) c.read_shared.ensures.state) c.in_ok-read_shared.ensures.inside c.lead.ensures.goes in
+    (c.limits-most.ensures.value ∙ ap (λ (st : State). sizes_of st.format) c.read_shared.ensures.state) c.in_ok-read_shared.ensures.inside c.lead.ensures.goes in
     let here = subst (LeadsToNext old fits.start (frontier_aim before.frontier) false 0 position) (c.in-Some-Here.is ∙ ap Some c.in-Some-Here.field-0-is) led in
     let block_is : page.block ≡ position.block = (stored_there g (goal.at.returns-in_default-clause-all g c).After-view-page).block_is in
     absurd (other_items page.items c.in_default.not-Entries (leaf_has_entries old (frontier_aim before.frontier) page order.tree
@@ -79,7 +79,7 @@ returns-in-None-clause-all g c =
     absurd (subst (LeadsToNext old fits.start (frontier_aim c.args.self.now.frontier) false 0 c.args.position) c.in-None.is
     (scan_led old c.args.self.now c.args.position c.view-page.result.now c.limits-most.result c.lead.result c.requires.at order fits
     (found_there g (goal.at.returns-in-None-clause-all g c).After-view-page honest)
-    (c.limits-most.ensures.value ∙ ap (λ (st : State). sizes_of st.limits) c.read_shared.ensures.state) c.in_ok-read_shared.ensures.inside c.lead.ensures.goes)))
+    (c.limits-most.ensures.value ∙ ap (λ (st : State). sizes_of st.format) c.read_shared.ensures.state) c.in_ok-read_shared.ensures.inside c.lead.ensures.goes)))
 
 pub returns-in-Some-Going-clause-all : goal.returns-in-Some-Going-clause-all
 returns-in-Some-Going-clause-all g c =
@@ -91,12 +91,12 @@ returns-in-Some-Going-clause-all g c =
     let is : new ≡ with_table old (without_leaf old.table before.session before.leaf) =
     c.go_on.ensures.state ∙ ap (λ (st : State). with_table st (without_leaf st.table before.session before.leaf)) c.read_shared.ensures.state in
     let answer : c.lead.result ≡ Some (Going on) = c.in-Some-Going.is ∙ ap Some c.in-Some-Going.field-0-is in
-    let most : c.limits-most.result.pages ≡ old.limits.pages = ap (λ (l : Limits). l.pages) c.limits-most.ensures.value ∙ ap (λ (st : State). st.limits.pages) c.read_shared.ensures.state in
-    let shorter : IsShorter 0 old.limits.pages c.args.position on =
+    let most : c.limits-most.result.pages ≡ old.format.pages = ap (λ (l : Limits). l.pages) c.limits-most.ensures.value ∙ ap (λ (st : State). st.format.pages) c.read_shared.ensures.state in
+    let shorter : IsShorter 0 old.format.pages c.args.position on =
     subst (λ (n : ℕ). IsShorter 0 n c.args.position on) most (subst (DescentIsShorter 0 c.limits-most.result.pages c.args.position) answer c.lead.ensures.less) in
-    let less : scan_left old.limits.pages old.pages after < scan_left old.limits.pages old.pages before =
-    subst (λ (op : ScanOp). scan_left old.limits.pages old.pages op < scan_left old.limits.pages old.pages before) (sym c.go_on.ensures.op)
-    (going_less old.limits.pages old.pages before c.args.position on c.requires.at shorter) in
+    let less : scan_left old.format.pages old.pages after < scan_left old.format.pages old.pages before =
+    subst (λ (op : ScanOp). scan_left old.format.pages old.pages op < scan_left old.format.pages old.pages before) (sym c.go_on.ensures.op)
+    (going_less old.format.pages old.pages before c.args.position on c.requires.at shorter) in
     record {
       steps = search rules;
       session = ap (λ (op : ScanOp). op.session) c.go_on.ensures.op;
@@ -115,7 +115,7 @@ returns-in-Some-Going-clause-all g c =
           let position : Position = c.args.position in
           let led = scan_led old before position c.view-page.result.now c.limits-most.result c.lead.result c.requires.at order fits
           (found_there g (goal.at.returns-in-Some-Going-clause-all g c).After-view-page (later.honest honest))
-          (c.limits-most.ensures.value ∙ ap (λ (st : State). sizes_of st.limits) c.read_shared.ensures.state) c.in_ok-read_shared.ensures.inside c.lead.ensures.goes in
+          (c.limits-most.ensures.value ∙ ap (λ (st : State). sizes_of st.format) c.read_shared.ensures.state) c.in_ok-read_shared.ensures.inside c.lead.ensures.goes in
           record {
             does = going_does old new before order fits is;
             fits = subst (ScanInvariant new) (sym c.go_on.ensures.op)
@@ -145,21 +145,21 @@ returns-in-Entries-clause-all g c =
     let position : Position = c.args.position in
     let page : Page = c.view-page.result.now in
     let es : List Entry = c.take.new.self.copied.items in
-    let taken : c.take.new.self ≡ behind before page.high page.right es = c.take.ensures.op in
+    let taken : c.take.new.self ≡ after_reading before page.high page.right es = c.take.ensures.op in
     let is : new ≡ with_table old (pinned (without_leaf old.table before.session before.leaf) before.session position.block) =
     subst (λ (op : ScanOp).
     new ≡ with_table (g.S.PageStore.state c.read_shared.new.store)
     (pinned (without_leaf (g.S.PageStore.state c.read_shared.new.store).table op.session op.leaf) op.session position.block)) taken c.stand_on.ensures.state
     ∙ ap (λ (st : State). with_table st (pinned (without_leaf st.table before.session before.leaf) before.session position.block)) c.read_shared.ensures.state in
-    let op_is : after ≡ behind (record before { leaf = Some position.block }) page.high page.right es =
+    let op_is : after ≡ after_reading (record before { leaf = Some position.block }) page.high page.right es =
     c.stand_on.ensures.op ∙ ap (λ (op : ScanOp). record op { leaf = Some position.block }) taken in
     let arrived : IsArrived page (frontier_aim before.frontier) = c.lead.ensures.here (c.in-Some-Here.is ∙ ap Some c.in-Some-Here.field-0-is) in
     let many : length es ≤ 50 = c.take.ensures.many in
     let later : IsLater (g.S.PageStore.backing c.read_shared.new.store) (g.S.PageStore.backing c.stand_on.new.store) =
     g.met.S.PageStore.laws.follows_later _ _ (c.stand_on.ensures.steps _ (g.met.S.PageStore.laws.follows_same _)) in
-    let less : (g.S.PageStore.backing c.stand_on.new.store).honest ≡ true → scan_left old.limits.pages old.pages after < scan_left old.limits.pages old.pages before =
-    λ honest. subst (λ (op : ScanOp). scan_left old.limits.pages old.pages op < scan_left old.limits.pages old.pages before) (sym op_is)
-    (reading_less old.limits.pages old.pages before (Some position.block) position position.block page es c.requires.at
+    let less : (g.S.PageStore.backing c.stand_on.new.store).honest ≡ true → scan_left old.format.pages old.pages after < scan_left old.format.pages old.pages before =
+    λ honest. subst (λ (op : ScanOp). scan_left old.format.pages old.pages op < scan_left old.format.pages old.pages before) (sym op_is)
+    (reading_less old.format.pages old.pages before (Some position.block) position position.block page es c.requires.at
     (found_there g (goal.at.returns-in-Entries-clause-all g c).After-view-page (later.honest honest)) arrived many) in
     record {
       steps = search rules;
@@ -177,7 +177,7 @@ returns-in-Entries-clause-all g c =
           let on_way : IsOnDescent old fits.start (frontier_aim before.frontier) false 0 position = subst (ScanStands old fits.start before.leaf before.frontier) c.requires.at fits.stands in
           let found : slice_get old.pages position.block ≡ Some page = found_there g (goal.at.returns-in-Entries-clause-all g c).After-view-page (later.honest honest) in
           let led = scan_led old before position page c.limits-most.result c.lead.result c.requires.at order fits found
-          (c.limits-most.ensures.value ∙ ap (λ (st : State). sizes_of st.limits) c.read_shared.ensures.state) c.in_ok-read_shared.ensures.inside c.lead.ensures.goes in
+          (c.limits-most.ensures.value ∙ ap (λ (st : State). sizes_of st.format) c.read_shared.ensures.state) c.in_ok-read_shared.ensures.inside c.lead.ensures.goes in
           let here : (position.level ≡ 0) × HasCover old 0 (frontier_aim before.frontier) position.block =
           subst (LeadsToNext old fits.start (frontier_aim before.frontier) false 0 position) (c.in-Some-Here.is ∙ ap Some c.in-Some-Here.field-0-is) led in
           let admitted = (stored_there g (goal.at.returns-in-Entries-clause-all g c).After-view-page).storable.admitted in

@@ -2,14 +2,14 @@ use Rattle.std.proofs.Common.{true, sym, ◌∙◌}
 use Rattle.split_finish.proofs.Imports.{IsLater, place_inside, finish_blocks, frames_of, takes_block_of, splits_root_of}
 use Rattle.split_finish.proofs.Needs.{needs_frame}
 use Rattle.split_finish.proofs.Standing.{meta_inside, has_room}
-use Rattle.split_finish.proofs.Stepping.{refuses, behind}
+use Rattle.split_finish.proofs.Stepping.{refuses, follows_read}
 use Rattle.split_finish.proofs.finish.FinishOp.grow.Goals as goal
 
 pub returns-in-Ok-clause-all : goal.returns-in-Ok-clause-all
 returns-in-Ok-clause-all g c =
     let later : IsLater (g.S.PageStore.backing c.args.store.now) (g.S.PageStore.backing c.read_both.new.store) =
     g.met.S.PageStore.laws.follows_later _ _ (c.read_both.ensures.steps _ (g.met.S.PageStore.laws.follows_same _)) in
-    behind g.S.PageStore c.args.self.now c.grow_over.new.self c.args.store.now c.read_both.new.store c.grow_over.new.store c.grow_over.result
+    follows_read g.S.PageStore c.args.self.now c.grow_over.new.self c.args.store.now c.read_both.new.store c.grow_over.new.store c.grow_over.result
     (record {
       steps = c.read_both.ensures.steps;
       same = c.read_both.ensures.state;

@@ -40,7 +40,7 @@ returns-in-Some-Here-clause-turn c = λ st found limit few.
     let is : c.lead.result ≡ Some Here = c.in-Some-Here.is ∙ ap Some c.in-Some-Here.field-0-is in
     let here = c.lead.ensures.here is in
     turn_moved st op (Down c.args.position) (Link c.args.position) c.requires
-    (less_link st.limits.pages (nodes_of st.pages) op.below.items op.target c.args.position
+    (less_link st.format.pages (nodes_of st.pages) op.below.items op.target c.args.position
     (ready_page st c.args.position.block (suc op.target.level) op.target.separator c.args.page.now found here.alive (c.has_incomplete_split.ensures.whole c.if-has_incomplete_split.false here.alive)
     (c.lead.ensures.level is ∙ to) here.within))
     (λ h fits on.

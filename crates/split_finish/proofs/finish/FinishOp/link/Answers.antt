@@ -3,7 +3,7 @@ use Rattle.split_finish.proofs.Imports.{Page, State, IsLater, place_inside, Fini
 use Rattle.split_finish.proofs.InPlace.{two_put}
 use Rattle.split_finish.proofs.Needs.{needs_frame}
 use Rattle.split_finish.proofs.Standing.{has_room}
-use Rattle.split_finish.proofs.Stepping.{refuses, behind}
+use Rattle.split_finish.proofs.Stepping.{refuses, follows_read}
 use Rattle.split_finish.proofs.finish.FinishOp.link.Goals as goal
 
 pub link_to-requires-clause-read : goal.link_to-requires-clause-read
@@ -37,7 +37,7 @@ pub returns-in-Ok-clause-all : goal.returns-in-Ok-clause-all
 returns-in-Ok-clause-all g c =
     let later : IsLater (g.S.PageStore.backing c.args.store.now) (g.S.PageStore.backing c.read_both.new.store) =
     g.met.S.PageStore.laws.follows_later _ _ (c.read_both.ensures.steps _ (g.met.S.PageStore.laws.follows_same _)) in
-    behind g.S.PageStore c.args.self.now c.link_to.new.self c.args.store.now c.read_both.new.store c.link_to.new.store c.link_to.result
+    follows_read g.S.PageStore c.args.self.now c.link_to.new.self c.args.store.now c.read_both.new.store c.link_to.new.store c.link_to.result
     (record {
       steps = c.read_both.ensures.steps;
       same = c.read_both.ensures.state;

@@ -33,11 +33,11 @@ add-requires-clause-room g c =
     let at = c.in-Some-place_behind.at in
     let first = first_is c.args.pages.now are.parent are.page are.rest c.index-pages-0.result are.pages_are in
     let second = second_is c.args.pages.now are.parent are.page are.rest c.index-pages-1.result are.pages_are in
-    let room : length (links_of (slice_index_or c.args.pages.now 0 c.index-pages-0.result).items) < st.limits.items = search rules in
+    let room : length (links_of (slice_index_or c.args.pages.now 0 c.index-pages-0.result).items) < st.format.items = search rules in
     record {
       are = are;
       right = sym (ap (λ (p : Page). p.right) second) ∙ c.in-Some.is;
       place = subst (λ (p : Page). IsLinkPlace are.parent p.block op.target.separator at) second
           (subst (λ (q : Page). IsLinkPlace q (slice_index_or c.args.pages.now 1 c.index-pages-1.result).block op.target.separator at) first c.in-Some-place_behind.ensures.place);
-      room = subst (λ (q : Page). length (links_of q.items) < st.limits.items) first room;
+      room = subst (λ (q : Page). length (links_of q.items) < st.format.items) first room;
     }

@@ -10,9 +10,9 @@ returns-in-Ok-clause-all g c =
     c.leave_page.ensures.session c.leave_page.ensures.refused (λ h. (let k = sym c.in-Ok.is ∙ c.read_shared.ensures.stopped h in cc))
     (λ honest. c.leave_page.ensures.turn (g.S.PageStore.state c.args.store.now)
     (ap (λ (st : State). slice_get st.pages c.args.position.block) (sym c.read_shared.ensures.state) ∙ c.view.ensures.page honest)
-    (ap (λ (st : State). st.limits.pages) (sym c.read_shared.ensures.state) ∙ sym (ap (λ (l : _). l.pages) c.limits-most.ensures.value))
+    (ap (λ (st : State). st.format.pages) (sym c.read_shared.ensures.state) ∙ sym (ap (λ (l : _). l.pages) c.limits-most.ensures.value))
     (let most = c.in-Ok.ensures.inside in
-    let same = ap (λ (st : State). st.limits.pages) (sym c.read_shared.ensures.state) ∙ sym (ap (λ (l : _). l.pages) c.limits-most.ensures.value) in
+    let same = ap (λ (st : State). st.format.pages) (sym c.read_shared.ensures.state) ∙ sym (ap (λ (l : _). l.pages) c.limits-most.ensures.value) in
     subst (λ (n : ℕ). length (g.S.PageStore.state c.args.store.now).pages ≤ n) same most))
 
 pub returns-in-Err-clause-all : goal.returns-in-Err-clause-all

@@ -54,7 +54,7 @@ returns-in-Ok-act_on_halves-clause-all g c =
       right_found = c.requires.beside_found;
       clears = record { only = c.clear_split.ensures.only; after_is = c.clear_split.ensures.node; block_is = ap (λ (p : Page). p.block) c.clear_split.ensures.only };
     })
-    (subst (λ (s : State). AreActable s.limits (length s.pages) (halves_and left half c.args.right clear)) same c.in-Ok-act_on_halves.ensures.may)
+    (subst (λ (s : State). AreActable s.format (length s.pages) (halves_and left half c.args.right clear)) same c.in-Ok-act_on_halves.ensures.may)
     (c.in-Ok-act_on_halves.ensures.done ∙ ap (after_act (halves_and left half c.args.right clear)) same)
     refl c.in-Some.ensures.target.0 c.in-Some.ensures.target.1 c.in-Some.ensures.target.2
 
@@ -93,18 +93,18 @@ returns-in-Err-act_on_halves-clause-all g c =
       clears = record { only = c.clear_split.ensures.only; after_is = c.clear_split.ensures.node; block_is = ap (λ (p : Page). p.block) c.clear_split.ensures.only };
     }) in
     let some_pages : 0 < length st.pages = (let u = slice_get_within st.pages c.requires.meets.position.block c.args.parent (c.requires.meets.read_parent.found (later.honest honest)) in omega arith) in
-    let may : AreActable st.limits (length st.pages) (halves_and left half c.args.right clear) =
+    let may : AreActable st.format (length st.pages) (halves_and left half c.args.right clear) =
     parts_may st op.session op c.requires.meets.position c.args.page c.args.parent left half clear c.args.right c.args.new order fits c.requires.meets.at here (g.met.S.PageStore.laws.few c.args.store.now)
     c.split_links-half.ensures.left_page c.split_links-half.ensures.right_page c.split_links-half.ensures.left_internal
     c.split_links-half.ensures.right_internal c.requires.place.internal c.requires.full
     c.split_links-half.ensures.kept c.split_links-half.ensures.moved (subst IsBlock (sym is_new) (c.in-Ok.ensures.block some_pages))
     (c.clear_split.ensures.page c.requires.meets.read.stored.storable.admitted)
-    (subst (λ (p : Page). count_of p.items ≤ st.limits.items) (sym c.clear_split.ensures.only) c.requires.meets.read.stored.storable.few)
+    (subst (λ (p : Page). count_of p.items ≤ st.format.items) (sym c.clear_split.ensures.only) c.requires.meets.read.stored.storable.few)
     beside.mendable beside.apart_parent beside.apart_page in
     let why : HasCause (causes_of_acting st first third (halves_and left half c.args.right clear)) c.in-Err-act_on_halves.fault =
     subst (λ (b : Backing). HasCause (causes_of_acting st b third (halves_and left half c.args.right clear)) c.in-Err-act_on_halves.fault) c.take_block.ensures.backing
     (subst (λ (s : State). HasCause (causes_of_acting s (g.S.PageStore.backing c.take_block.new.store) third (halves_and left half c.args.right clear)) c.in-Err-act_on_halves.fault) same
-    (c.in-Err-act_on_halves.ensures.cause (subst (λ (s : State). AreActable s.limits (length s.pages) (halves_and left half c.args.right clear)) (sym same) may))) in
+    (c.in-Err-act_on_halves.ensures.cause (subst (λ (s : State). AreActable s.format (length s.pages) (halves_and left half c.args.right clear)) (sym same) may))) in
     let need = full_link st op c.requires.meets.position c.args.page c.args.parent (c.requires.meets.read.found (later.honest honest))
     (c.requires.meets.read_parent.found (later.honest honest)) c.requires.meets.ready c.requires.no_room in
     let are : map (λ (page : Page). page.block) (halves_and left half c.args.right clear) ≡ finish_blocks st op.target op.at =

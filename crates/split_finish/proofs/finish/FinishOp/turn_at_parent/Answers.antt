@@ -27,7 +27,7 @@ pub returns-clause-turn : goal.returns-clause-turn
 returns-clause-turn c = λ st found there.
     let op = c.args.self.now in
     turn_moved st op (Link c.args.position) (Down c.args.position) c.requires
-    (less_back st.limits.pages (nodes_of st.pages) op.below.items op.target c.args.position (omega arith)
+    (less_back st.format.pages (nodes_of st.pages) op.below.items op.target c.args.position (omega arith)
     (subst (λ (n : Node). is_ready n (suc op.target.level) op.target.separator ≡ false) (sym (node_there st.pages c.args.position.block c.args.parent.now there))
     (subst (λ (s : Bound). is_ready (node_of c.args.parent.now) (suc op.target.level) s ≡ false) (c.are_same.ensures.same c.if-not-are_same.false) (sym c.is_ready.ensures ∙ c.if-is_ready.false)))
     (omega arith))

@@ -20,7 +20,7 @@ pub returns-then-meta-self-clause-turn : goal.returns-then-meta-self-clause-turn
 returns-then-meta-self-clause-turn c = λ st there found.
     let op = c.args.self.now in
     turn_moved st op Root Start c.requires
-    (less_again st.limits.pages (nodes_of st.pages) op.below.items op.target
+    (less_again st.format.pages (nodes_of st.pages) op.below.items op.target
     (differ _ op.target.level (λ same. c.if-meta-self.true (sym (ap (λ (n : Node). n.level) (node_there st.pages 0 c.args.meta.now there)) ∙ same))) (omega arith))
     (λ h fits stands. tt)
 
@@ -38,7 +38,7 @@ returns-then-ne-clause-turn c = λ st there found h fits.
           let on : IsIncompleteSplit st fits.start c.args.meta.now.level u.separator c.args.page.now u.new =
           subst (λ (n : ℕ). IsIncompleteSplit st fits.start n u.separator c.args.page.now u.new) (sym c.if-meta-self.false) u.is in
           let root = root_shows st fits.start u.separator c.args.meta.now c.args.page.now u.new h there on in
-          let here : c.args.page.now.block ≡ op.target.block = (stored_page st.limits op.target.block st.pages c.args.page.now h.stored found).block_is in
+          let here : c.args.page.now.block ≡ op.target.block = (stored_page st.format op.target.block st.pages c.args.page.now h.stored found).block_is in
           not_same op.target.block (root ∙ ap Some here) (sym c.ne.ensures ∙ w.if-ne.true))
       | then-ne-via-else-ne+then-page-self w ↦
           absurd (w.if-page-self.true (live_level st fits.start c.args.self.now.target.level _ true c.args.self.now.target.block c.args.page.now h fits.newest.place found

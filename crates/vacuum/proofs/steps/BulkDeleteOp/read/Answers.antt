@@ -10,8 +10,8 @@ use Rattle.vacuum.proofs.steps.BulkDeleteOp.read.Goals.{After-view-page}
 use Rattle.vacuum.proofs.steps.BulkDeleteOp.read.Goals as goal
 
 -- the page that was read is stored
-stored : (g : Over) (c : After-view-page g) → IsStored (g.S.PageStore.state c.args.store.now).limits c.args.block c.view-page.result.now
-stored g c = subst (λ (st : State). IsStored st.limits c.args.block c.view-page.result.now) c.read_shared.ensures.state c.view-page.ensures.stored
+stored : (g : Over) (c : After-view-page g) → IsStored (g.S.PageStore.state c.args.store.now).format c.args.block c.view-page.result.now
+stored g c = subst (λ (st : State). IsStored st.format c.args.block c.view-page.result.now) c.read_shared.ensures.state c.view-page.ensures.stored
 
 -- ... and the one in use, if the device kept its model
 found : (g : Over) (c : After-view-page g) → (g.S.PageStore.backing c.read_shared.new.store).honest ≡ true → slice_get (g.S.PageStore.state c.args.store.now).pages c.args.block ≡ Some c.view-page.result.now
@@ -40,7 +40,7 @@ returns-in-Err-turn-clause-all g c =
     let before = c.args.self.now in
     let there = stored g (goal.at.returns-in-Err-turn-clause-all g c).After-view-page in
     let leaf = c.if-not-is_live_leaf.ensures.0 refl in
-    let most : c.limits.result.pages ≡ old.limits.pages = ap (λ (l : Limits). l.pages) c.limits.ensures.value ∙ ap (λ (s : State). s.limits.pages) c.read_shared.ensures.state in
+    let most : c.limits.result.pages ≡ old.format.pages = ap (λ (l : Limits). l.pages) c.limits.ensures.value ∙ ap (λ (s : State). s.format.pages) c.read_shared.ensures.state in
     refuses g.S.PageStore (g.T.DeadRows.is_in c.args.dead.now) before c.args.store.now c.read_shared.new.store c.in-Err-turn.fault c.read_shared.ensures.steps c.read_shared.ensures.state
     (λ h. absurd (let k : false ≡ true = sym c.requires.alive ∙ h in cc))
     (λ honest order fits.
@@ -53,9 +53,9 @@ take-requires g c =
     let old = g.S.PageStore.state c.args.store.now in
     let leaf = c.if-not-is_live_leaf.ensures.0 refl in
     record {
-      may = subst (λ (st : State). AreActable st.limits (length st.pages) (c.prune-pruned.result.after ∷ [])) (sym c.read_shared.ensures.state)
-          (subst (λ (p : Page). AreActable old.limits (length old.pages) (p ∷ [])) (sym c.prune-pruned.ensures.pruned.after_is)
-          (swept_may (g.T.DeadRows.is_in c.args.dead.now) old.limits (length old.pages) c.args.block c.view-page.result.now leaf.0 leaf.1 (stored g (goal.at.take-requires g c).After-view-page)
+      may = subst (λ (st : State). AreActable st.format (length st.pages) (c.prune-pruned.result.after ∷ [])) (sym c.read_shared.ensures.state)
+          (subst (λ (p : Page). AreActable old.format (length old.pages) (p ∷ [])) (sym c.prune-pruned.ensures.pruned.after_is)
+          (swept_may (g.T.DeadRows.is_in c.args.dead.now) old.format (length old.pages) c.args.block c.view-page.result.now leaf.0 leaf.1 (stored g (goal.at.take-requires g c).After-view-page)
           c.in-Ok.ensures.used c.in-Ok.ensures.inside));
     }
 
@@ -95,11 +95,11 @@ returns-clause-all g c =
     let at_view = (goal.at.returns-clause-all g c).After-view-page in
     let later : IsLater (g.S.PageStore.backing c.read_shared.new.store) (g.S.PageStore.backing c.take.new.store) =
     g.met.S.PageStore.laws.follows_later _ _ (c.take.ensures.steps _ (g.met.S.PageStore.laws.follows_same _)) in
-    let most : c.limits.result.pages ≡ old.limits.pages = ap (λ (l : Limits). l.pages) c.limits.ensures.value ∙ ap (λ (s : State). s.limits.pages) c.read_shared.ensures.state in
+    let most : c.limits.result.pages ≡ old.format.pages = ap (λ (l : Limits). l.pages) c.limits.ensures.value ∙ ap (λ (s : State). s.format.pages) c.read_shared.ensures.state in
     let cycle : c.cycle.result ≡ old.cycle = c.cycle.ensures ∙ ap (λ (s : State). s.cycle) c.read_shared.ensures.state in
     takes g.S.PageStore (g.T.DeadRows.is_in c.args.dead.now) before c.args.store.now c.take.new.store c.args.block c.view-page.result.now c.prune-pruned.result c.in-Ok-turn.backtrack
     c.requires.at c.requires.inside (λ honest. found g at_view (later.honest honest)) leaf.0 leaf.1 (stored g at_view) c.in-Ok.ensures.used c.in-Ok.ensures.inside
-    (subst (λ (n : ℕ). TurnsTo n old.limits.pages (last_read before.cursor before.backtrack) (moves_of before.backtrack) c.view-page.result.now c.in-Ok-turn.backtrack) cycle
+    (subst (λ (n : ℕ). TurnsTo n old.format.pages (last_read before.cursor before.backtrack) (moves_of before.backtrack) c.view-page.result.now c.in-Ok-turn.backtrack) cycle
     (subst (λ (n : ℕ). TurnsTo c.cycle.result n (last_read before.cursor before.backtrack) (moves_of before.backtrack) c.view-page.result.now c.in-Ok-turn.backtrack) most c.in-Ok-turn.ensures.turns))
     c.prune-pruned.ensures.pruned
     (subst (λ (st : State). is_held_by_another st.table before.session c.prune-pruned.result.after.block Cleanup ≡ false) c.read_shared.ensures.state c.in-Ok-take.ensures.free)

@@ -20,4 +20,4 @@ returns-clause-crash g c honest start history calls fits keeps =
     let now = fits_still g.S.PageStore start old c.page.new.self c.page.ensures.state fits in
     let follows = c.page.ensures.steps c.args.self.now.store (laws.follows_same c.args.self.now.store) in
     safe g.S.PageStore laws start old new follows keeps.own (matches_of now)
-    (keeps_on g.S.PageStore laws start old new follows (ap (λ (st : State). st.limits) c.page.ensures.state) (no_growth history) fits.explains.count (matches_of now) keeps)
+    (keeps_on g.S.PageStore laws start old new follows (ap (λ (st : State). st.format) c.page.ensures.state) (no_growth history) fits.explains.count (matches_of now) keeps)

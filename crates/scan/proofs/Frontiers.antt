@@ -41,8 +41,8 @@ module _ (f g : Bound) (le : IsNoGreater f g) where
   pub past_falls : (e : Entry) → is_past g e ≡ true → is_past f e ≡ true
   past_falls e h = upto_before f g (bound_of e) le h
 
-  pub behind_stays : (e : Entry) → is_past f e ≡ false → is_past g e ≡ false
-  behind_stays e h = elim (before_or g (bound_of e)) [ inl lt ↦ absurd (true≢false (sym (past_falls e lt) ∙ h)) | inr w ↦ w ]
+  pub passed_stays : (e : Entry) → is_past f e ≡ false → is_past g e ≡ false
+  passed_stays e h = elim (before_or g (bound_of e)) [ inl lt ↦ absurd (true≢false (sym (past_falls e lt) ∙ h)) | inr w ↦ w ]
 
 -- a page isn't ahead of a frontier that has passed its high key
 pub high_is_passed : (f high : Bound) → is_within (frontier_aim (frontier_past f (Some high))) (Some high) ≡ false

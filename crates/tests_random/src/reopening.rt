@@ -145,11 +145,11 @@ fn is_right_after(
     counted.opened = counted.opened.saturating_add(1);
     let mut world = opened(run, FOR_ALL, found)?;
     let mut next = judge_of(run, &mut world)?;
-    is_right_behind(run, store_of(world), judge, &mut next, works, counted)
+    opens_as_judged(run, store_of(world), judge, &mut next, works, counted)
 }
 
 /// The same of the store that was opened, whose entries the second judge has begun with.
-fn is_right_behind(
+fn opens_as_judged(
     run: Run,
     mut store: Store<MemDevice>,
     judge: &mut Judge,
