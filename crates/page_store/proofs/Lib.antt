@@ -22,3 +22,4 @@ pub mod Misfits
 pub mod Evicting
 pub mod Costing
 pub mod Logging
+pub mod Holding

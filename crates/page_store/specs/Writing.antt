@@ -1,5 +1,5 @@
 -- What the device and the pool have of the pages.
-use Rattle.std.specs.Prelude.{◌≡◌, ◌⊎◌, ℕ, suc, ◌<◌, ◌≤◌, Bool, true, Some, List, Result, MatchResult, length, take, slice_get}
+use Rattle.std.specs.Prelude.{◌≡◌, ◌⊎◌, ℕ, suc, ◌<◌, ◌≤◌, Bool, true, Some, is_some, List, Result, MatchResult, length, take, slice_get}
 use Rattle.index_model.specs.declared.fault.Fault.{Fault}
 use Rattle.index_model.specs.declared.fault.Fault.TheVariants.{Io, PageDamaged}
 use Rattle.device.specs.Disk.{DiskMoment}
@@ -12,6 +12,7 @@ use Rattle.page_codec.specs.Spelling.{page_bytes}
 use Rattle.page_codec.specs.declared.page.Page.{Page}
 use Rattle.page_action.specs.Stored.{IsStored}
 use Rattle.page_codec.specs.Places.{place}
+use Rattle.redo_log.specs.Images.{last_image}
 
 -- a read gives each of these pages at its place
 abbrev pub AreSeen : Format → List Page → DiskMoment → Type 0
@@ -33,6 +34,13 @@ pub record HoldsPages (limits : Format) (pages : List Page) (acts : ℕ) (pool :
       → slice_get pages block ≡ Some page → page_bytes held ≡ page_bytes page
   pub seen : honest ≡ true → (block : ℕ) (page : Page) → slice_get pages block ≡ Some page
       → act_of pool block ≡ 0 → Has (place limits block) (page_bytes page) m.seen
+
+-- What waits in the log is held: each block of these images was changed last by an act after the first
+-- `durable` ones, and its page has the bytes of its last image.
+pub record HoldsWaiting (images : List Page) (durable : ℕ) (pool : Pool) : Type 0 where
+  pub acted : (block : ℕ) → is_some (last_image images block) ≡ true → durable < act_of pool block
+  pub held : (block : ℕ) (held page : Page) → held_page pool block ≡ Some held
+      → last_image images block ≡ Some page → page_bytes held ≡ page_bytes page
 
 -- the first `count` of the changed pages stand at their places, as a read gives them
 abbrev pub AreWrittenUpTo : Format → Pool → ℕ → DiskMoment → Type 0

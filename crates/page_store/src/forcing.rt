@@ -15,6 +15,7 @@ ghost use Rattle.page_store.specs.Logged.{held_of, backing_of, SamePages, SameRo
 ghost use Rattle.page_store.specs.Quiet.{IsSameButWritten, IsUnforced};
 ghost use Rattle.page_store.specs.Writing.{AreWrittenUpTo, IsAllFirm, IsClean};
 
+use crate::laying::{advance, force};
 use crate::logged_pages::LoggedPages;
 use crate::writing::write_page;
 use device::Device;
@@ -45,7 +46,7 @@ impl<D: Device> LoggedPages<D> {
             return Err(Fault::Stopped);
         }
         if self.durable < self.acts {
-            self.log.force(&mut self.device)?;
+            force(&mut self.log, &self.pool, &mut self.device)?;
             self.durable = self.acts;
             // A force never gives room.
             self.room = self.room.min(self.log.room());
@@ -71,7 +72,7 @@ impl<D: Device> LoggedPages<D> {
         if self.log.is_stopped() {
             return Err(Fault::Stopped);
         }
-        self.log.advance(&mut self.device)
+        advance(&mut self.log, &self.pool, &mut self.device)
     }
 
     // Writes the page of a block whose last act is durable to its place. Refused with `Io`.
@@ -147,6 +148,7 @@ impl<D: Device> LoggedPages<D> {
     // Notes that the page of this block, at this place of the order, stands at its place.
     pub(crate) fn note_written(&mut self, place: usize, block: u32)
         requires at { slice_get (changed_of self.old.pool) place ≡ Some block }
+        requires durable { act_of self.old.pool block ≤ self.old.durable }
         requires home { (page : Page) → held_page self.old.pool block ≡ Some page
             → Has (Rattle.page_codec.specs.Places.place self.old.limits block) (page_bytes page)
             (D.trace self.old.device).now.seen }
@@ -214,6 +216,7 @@ impl<D: Device> LoggedPages<D> {
     // Notes that the first `count` changed pages stand at their places.
     fn note_first_written(&mut self, count: usize)
         requires few { count ≤ length (changed_of self.old.pool) }
+        requires durable { self.old.durable ≡ self.old.acts }
         requires home { AreWrittenUpTo self.old.limits self.old.pool count
             (D.trace self.old.device).now }
         ensures steps { Follows (held_of D.Device self.old) (held_of D.Device self.new) }

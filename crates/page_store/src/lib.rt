@@ -6,6 +6,7 @@ mod changing;
 mod fetching;
 mod forcing;
 mod history;
+mod laying;
 mod log_room;
 mod logged_pages;
 mod memory;

@@ -7,10 +7,10 @@ ghost use Rattle.page_codec.specs.Places.{place};
 ghost use Rattle.index_model.specs.Limits.{AreLimits};
 ghost use Rattle.page_action.specs.Stored.{AreStored};
 ghost use Rattle.page_action.specs.Props.{AreStored-prop};
-ghost use Rattle.redo_log.specs.Kept.{limits_of, is_stopped, actions_of, waiting_count, end_with};
+ghost use Rattle.redo_log.specs.Kept.{limits_of, is_stopped, actions_of, waiting_count, waiting_images, end_with};
 ghost use Rattle.page_store.specs.Histories.{pages_now};
-ghost use Rattle.page_store.specs.Holding.{HoldsPages-prop};
-ghost use Rattle.page_store.specs.Writing.{HoldsPages};
+ghost use Rattle.page_store.specs.Holding.{HoldsPages-prop, HoldsWaiting-prop};
+ghost use Rattle.page_store.specs.Writing.{HoldsPages, HoldsWaiting};
 
 use crate::changing::{change_all, used_after};
 use crate::history::History;
@@ -49,6 +49,7 @@ pub(crate) struct LoggedPages<D: Device> {
     ghost holds: { HoldsPages limits (pages_now history) acts pool (D.is_honest device)
         (D.trace device).now } by { HoldsPages-prop limits (pages_now history) acts pool (D.is_honest device)
             (D.trace device).now },
+    ghost waits: { HoldsWaiting (waiting_images log) durable pool } by { HoldsWaiting-prop (waiting_images log) durable pool },
     ghost counted: { acts ≡ actions_of log },
     ghost not_ahead: { durable ≤ acts },
     ghost forced: { is_stopped log ≡ false → durable ≡ acts → waiting_count log ≡ 0 },

@@ -1,14 +1,14 @@
 -- One action more waits.
 use Rattle.std.proofs.Common.{◌≡◌, inl, inr, ⊎_elim, true, false, ℕ, zero, suc, ◌+◌, ◌*◌, ◌/◌, ◌<◌, ◌≤◌, List, [], ◌∷◌, ◌++◌, length, drop, sym, ◌∙◌, ap, subst, arith, length-append}
-use Rattle.redo_log.proofs.Imports.{take-append-le, drop-append-le, DiskMoment, Page, SameImages, images_of, with_blocks, new_count, with_images, AreLaid, LogHolds, IsAjar, IsSettled, MayBeLetIn, ImagesFit}
-use Rattle.redo_log.proofs.Imports.{waiting_blocks, waiting_count, Log}
+use Rattle.redo_log.proofs.Imports.{take-append-le, drop-append-le, DiskMoment, Page, SameImages, images_of, with_blocks, new_count, with_images, AreOfBlocks, LogHolds, IsAjar, IsSettled, MayBeLetIn, ImagesFit}
+use Rattle.redo_log.proofs.Imports.{waiting_blocks, waiting_count, waiting_images, Log}
 use Rattle.redo_log.proofs.ImageLists.{same_append, same_trans, same_eq, images_of-push}
 use Rattle.redo_log.proofs.BlockLists.{EachStandsOnce, distinct, length-with_blocks}
 use Rattle.redo_log.proofs.Laying.{with_images-same}
 
 -- what waits has the images of the action too, each in the place of its block's
 pub keeps_more : (old new : Log) (images : List Page) → new.limits ≡ old.limits → new.at ≡ old.at → new.stopped ≡ old.stopped → new.ajar ≡ old.ajar → new.written ≡ false
-    → ((laid : List Page) → AreLaid old.limits (waiting_blocks old) old.buffer.items laid → AreLaid old.limits (waiting_blocks new) new.buffer.items (with_images laid images))
+    → ((laid : List Page) → AreOfBlocks old.limits (waiting_blocks old) (waiting_images old) laid → AreOfBlocks old.limits (waiting_blocks new) (waiting_images new) (with_images laid images))
     → (m : DiskMoment) (acts : List (List Page)) (forced : ℕ) → LogHolds old m acts forced → LogHolds new m (acts ++ images ∷ []) forced
 keeps_more old new images limits at stopped ajar changed laid m acts forced k =
     record {
@@ -19,7 +19,7 @@ keeps_more old new images limits at stopped ajar changed laid m acts forced k =
           (λ shut. inl (ajar ∙ shut.0, subst (λ l. IsSettled l 4096 new.at k.groups m) (sym limits) (subst (λ a. IsSettled old.limits 4096 a k.groups m) (sym at) shut.1)))
           (λ may. inr (ajar ∙ may.0, still_let_in may.1)) k.gate;
       written = λ w. (let both : true ≡ false = sym w ∙ changed in absurd cc);
-      waits = subst (λ l. AreLaid l (waiting_blocks new) new.buffer.items (with_images k.waiting images)) (sym limits) (laid k.waiting k.waits);
+      waits = subst (λ l. AreOfBlocks l (waiting_blocks new) (waiting_images new) (with_images k.waiting images)) (sym limits) (laid k.waiting k.waits);
       few = omega (arith, length-append acts (images ∷ []), k.few);
       durable = subst (λ (l : List (List Page)). SameImages (images_of k.groups) (images_of l)) (sym (take-append-le forced acts (images ∷ []) k.few)) k.durable;
       unforced = same_trans (with_images k.waiting images) (k.waiting ++ images) (images_of (drop forced (acts ++ images ∷ [])))
@@ -52,12 +52,7 @@ fits_with log images fit some =
     let long = length-with_blocks (waiting_blocks log) images in
     omega (arith, long, fits_more log.at (waiting_count log) (new_count (waiting_blocks log) images) log.limits.log_bytes log.fits fit (omega arith))
 
--- what waits fits into the buffer
-pub fits_now : (at count size : ℕ) → 65536 ≤ size → (0 < count → at + (6 + 4096 * count) ≤ size) → 5 + 4096 * count ≤ size
-fits_now at zero size least fits = omega arith
-fits_now at (suc count) size least fits = omega (arith, fits (omega arith))
-
--- and into the list of the blocks
+-- what waits fits into the list of the blocks
 pub fits_listed : (at count size room : ℕ) → size / 4096 ≤ room → (0 < count → at + (6 + 4096 * count) ≤ size) → count ≤ room
 fits_listed at zero size room listed fits = omega arith
 fits_listed at (suc count) size room listed fits = omega (arith, fits (omega arith))

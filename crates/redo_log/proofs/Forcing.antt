@@ -7,15 +7,23 @@ use Rattle.std.specs.Prelude.{OnOk, OnErr, suc}
 use Rattle.redo_log.specs.Kept.{groups_end, end_with}
 use Rattle.redo_log.proofs.Imports.{drop-length, with_items_is, append-nil, w32, to_le_bytes, DiskMoment, Trace, Writes, Syncs, next, wrote, synced, AtEachMoment, Has, OnDisk, ChangesOnly, steps, goes_on, goes_weaker, goes_now, writes_goes, syncs_goes}
 use Rattle.redo_log.proofs.Imports.{kept, only_more, only_wider, same_only, synced_only, wrote_only, wrote_has, synced_on, Format, Page, SameImages, images_bytes, images_of, IsGroup, body, spelled_groups, LogHolds, IsAjar, IsSettled, MayBeLetIn, Restarts, RestartsThroughout, KeepsActions, ChangesItsRange, SameLog, Waits}
-use Rattle.redo_log.proofs.Imports.{is_ajar, is_written, limits_of, waiting_blocks, waiting_count, Log}
+use Rattle.redo_log.proofs.Imports.{is_ajar, is_written, limits_of, waiting_blocks, waiting_count, waiting_images, IsLaid, Log}
 use Rattle.redo_log.proofs.Leaving.{lets_in, let_in, settled_behind, settled_front, settled_synced, shut_out}
 use Rattle.redo_log.proofs.ImageLists.{none, same_eq, same_trans, images_of-push}
-use Rattle.redo_log.proofs.Laying.{none_laid}
+use Rattle.redo_log.proofs.Laying.{none_kept}
 use Rattle.redo_log.proofs.Keeping.{ajar_gate, ajar_restarts, keeps_all, none_ajar, settled_restarts, shut_gate, waiting_group}
 
 pub whole_list : {A : Type 0} (xs : List A) → take (length xs) xs ≡ xs
 whole_list [] = refl
 whole_list (x ∷ xs) = ap (λ l. x ∷ l) (whole_list xs)
+
+-- if all images that wait are laid out, the buffer has them
+pub laid_all : (log : Log) (waiting : List Page) → IsLaid log → Waits log waiting → take (4096 * waiting_count log) (drop 4 log.buffer.items) ≡ images_bytes waiting
+laid_all log waiting laid w =
+    ap (λ (n : ℕ). take (4096 * n) (drop 4 log.buffer.items)) (sym laid)
+    ∙ (log.laid_out
+    ∙ (ap (λ (l : List Page). images_bytes (take log.laid l)) w.same
+    ∙ (ap (λ (n : ℕ). images_bytes (take n waiting)) (laid ∙ sym w.counted) ∙ ap images_bytes (whole_list waiting))))
 
 -- the group that was sealed in a buffer, as it is read from there
 pub sealed_piece : (v : Vec ℕ Global) (given sealed read : List ℕ) (c : ℕ) (waiting : List Page) → given ≡ v.items → length sealed ≡ v.len → read ≡ (with_items v sealed).items
@@ -213,7 +221,7 @@ module _ (log : Log) (acts : List (List Page)) (forced : ℕ) where
                 (subst (IsSettled log.limits 4096 (log.at + (5 + 4096 * length may.group)) (k.groups ++ may.group ∷ [])) (sym there) is_let_in)),
           );
           written = λ w. (let both : true ≡ false = sym w ∙ unwritten in absurd cc);
-          waits = none_laid log'.limits (waiting_blocks log') log'.buffer.items none_waits;
+          waits = none_kept log'.limits (waiting_blocks log') (waiting_images log') log'.named none_waits;
           few = omega arith;
           durable = subst (λ (g : List Page). SameImages (images_of (k.groups ++ g ∷ [])) (images_of (take (length acts) acts))) (sym all.0) (all_waiting log t.now acts forced k);
           unforced = same_eq [] _ (sym (ap images_of (drop-length acts)));

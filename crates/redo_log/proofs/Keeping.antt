@@ -1,8 +1,8 @@
 -- What a log keeps stays so, whatever is written outside its range; and a crash leaves it.
-use Rattle.std.proofs.Common.{◌≡◌, ◌⊎◌, inl, inr, ⊎_elim, ℕ, ◌+◌, ◌*◌, ◌<◌, ◌≤◌, Bool, true, false, List, [], ◌∷◌, ◌++◌, length, take, drop, refl, sym, ◌∙◌, ap, arith, length-append}
+use Rattle.std.proofs.Common.{◌≡◌, ◌⊎◌, inl, inr, ⊎_elim, ℕ, ◌+◌, ◌*◌, ◌<◌, ◌≤◌, Bool, true, false, List, [], ◌∷◌, ◌++◌, length, take, drop, refl, sym, ◌∙◌, ap, subst, arith, length-append}
 use Rattle.device.specs.Places.{IsUntouched}
 use Rattle.redo_log.proofs.Imports.{take-append-drop, DiskMoment, Has, OnDisk, ChangesOnly, untouched_on, elsewhere_untouched, Page, body, spelled_groups, IsGroup, SameImages, images_of, IsAjar, IsSettled, LogHolds, MayBeLetIn, Restarts, ForgetsForced}
-use Rattle.redo_log.proofs.Imports.{RangeIsUntouched, limits_of, is_ajar, is_written, waiting_count, Log}
+use Rattle.redo_log.proofs.Imports.{RangeIsUntouched, AreOfBlocks, WaitsAlike, limits_of, is_ajar, is_written, waiting_count, waiting_blocks, waiting_images, Log}
 use Rattle.redo_log.proofs.ImageLists.{none, same_append, same_after, same_trans, same_eq, images_of-append}
 use Rattle.redo_log.proofs.Leaving.{length_body, length_piece, lets_in, settled_leaves}
 
@@ -157,6 +157,35 @@ module _ (log : Log) (old new : DiskMoment) (untouched : RangeIsUntouched (limit
       few = k.few;
       durable = k.durable;
       unforced = k.unforced;
+    }
+
+-- how much is laid out for a force is nothing to what a log keeps
+pub keeps_laid : (old new : Log) → WaitsAlike old new → (m : DiskMoment) (acts : List (List Page)) (forced : ℕ) → LogHolds old m acts forced → LogHolds new m acts forced
+keeps_laid old new w m acts forced k = record {
+  alive = w.stopped ∙ k.alive;
+  groups = k.groups;
+  waiting = k.waiting;
+  gate = ⊎_elim
+      (λ shut. inl (w.ajar ∙ shut.0, subst (λ l. IsSettled l 4096 new.at k.groups m) (sym w.same.limits) (subst (λ a. IsSettled old.limits 4096 a k.groups m) (sym w.end) shut.1)))
+      (λ may. inr (w.ajar ∙ may.0, still_let_in may.1)) k.gate;
+  written = λ is. subst (λ (n : ℕ). Has (4096 + n + 1) (body k.waiting ++ 0 ∷ []) m.seen) (sym w.end) (k.written (sym w.written ∙ is));
+  waits = subst (λ l. AreOfBlocks l (waiting_blocks new) (waiting_images new) k.waiting) (sym w.same.limits)
+      (subst (λ (l : List ℕ). AreOfBlocks old.limits l (waiting_images new) k.waiting) (sym w.blocks)
+      (subst (λ (l : List Page). AreOfBlocks old.limits (waiting_blocks old) l k.waiting) (sym w.images) k.waits));
+  few = k.few;
+  durable = k.durable;
+  unforced = k.unforced;
+}
+  where
+    still_let_in : MayBeLetIn old m acts forced k.groups k.waiting → MayBeLetIn new m acts forced k.groups k.waiting
+    still_let_in a = record {
+      group = a.group;
+      ajar = subst (λ l. IsAjar l 4096 new.at k.groups a.group m) (sym w.same.limits) (subst (λ n. IsAjar old.limits 4096 n k.groups a.group m) (sym w.end) a.ajar);
+      part = a.part;
+      from = a.from;
+      to = a.to;
+      same = a.same;
+      whole = λ is. (let all = a.whole (sym w.written ∙ is) in (all.0, subst (λ (n : ℕ). Has (4096 + n) (1 ∷ []) m.seen) (sym w.end) all.1));
     }
 
 pub keeps_untouched : (log : Log) (old new : DiskMoment) (acts : List (List Page)) (forced : ℕ) → RangeIsUntouched (limits_of log) old new → LogHolds log old acts forced → LogHolds log new acts forced

@@ -10,3 +10,4 @@ mod Noting
 mod Parsing
 mod Replaying
 mod Resetting
+pub mod Standing

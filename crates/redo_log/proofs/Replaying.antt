@@ -1,10 +1,10 @@
 -- From what was read to a log that keeps it.
 use Rattle.std.proofs.Common.{◌≡◌, ◌≢◌, inl, refl, true, ℕ, ◌+◌, ◌-◌, ◌≤◌, List, [], ◌∷◌, ◌++◌, length, take, drop, get_or, Bool, IsTrue, false, sym, ◌∙◌, ap, subst, arith, append_assoc, length-append, length-drop, length-take-le}
 use Rattle.redo_log.proofs.Imports.{drop-length, get_or-drop, get_or-take, get_or_append_left, slice_range, DiskMoment, Has, Format, Page, images_of, IsImage, AreImages, AreGroups, spelled_groups}
-use Rattle.redo_log.proofs.Imports.{SpellsGroups, log_range, IsSettled, waiting_blocks, AreAllImages, AreAllNoted, Replays, IsReplay, bytes_at, Log}
+use Rattle.redo_log.proofs.Imports.{SpellsGroups, log_range, IsSettled, waiting_blocks, waiting_images, AreAllImages, AreAllNoted, Replays, IsReplay, bytes_at, Log}
 use Rattle.redo_log.specs.declared.log.Replayed.{Replayed}
 use Rattle.redo_log.proofs.ImageLists.{same_eq, all-append}
-use Rattle.redo_log.proofs.Laying.{none_laid}
+use Rattle.redo_log.proofs.Laying.{none_kept}
 use Rattle.redo_log.proofs.Noting.{none_stands}
 use Rattle.redo_log.proofs.Forcing.{whole_list}
 
@@ -62,7 +62,7 @@ replayed limits m log bytes images at are fits r limits_are at_is idle alive shu
           }),
         );
         written = λ w. (let both : true ≡ false = sym w ∙ unwritten in absurd cc);
-        waits = none_laid log.limits (waiting_blocks log) log.buffer.items idle;
+        waits = none_kept log.limits (waiting_blocks log) (waiting_images log) log.named idle;
         few = omega arith;
         durable = same_eq _ _ (ap images_of (sym (whole_list r.groups)));
         unforced = same_eq [] _ (sym (ap images_of (drop-length r.groups)));

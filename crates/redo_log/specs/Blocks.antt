@@ -46,13 +46,17 @@ abbrev pub with_images : List Page → List Page → List Page
 with_images laid [] = laid
 with_images laid (p ∷ ps) = with_images (with_image laid p) ps
 
--- these images, one of each of the blocks, stand in the buffer after the room for their number
-pub record AreLaid (limits : Format) (order buffer : List ℕ) (laid : List Page) : Type 0 where
-  pub counted : length laid ≡ length order
-  pub images : AreImages limits laid
-  pub blocks : image_blocks laid ≡ order
-  pub buffered : take (4096 * length order) (drop 4 buffer) ≡ images_bytes laid
+-- the list is these images, one of each of the blocks
+pub record AreOfBlocks (limits : Format) (order : List ℕ) (list kept : List Page) : Type 0 where
+  pub counted : length kept ≡ length order
+  pub images : AreImages limits kept
+  pub blocks : image_blocks kept ≡ order
+  pub same : list ≡ kept
 
--- if one waits, the buffer has room for their number and for an image of each, and a byte behind them
-abbrev pub ReachesBehind : List ℕ → List ℕ → Type 0
-ReachesBehind order buffer = 0 < length order → 5 + 4096 * length order ≤ length buffer
+-- the first `count` of these images stand in the buffer after the room for their number
+abbrev pub AreLaid : ℕ → List Page → List ℕ → Type 0
+AreLaid count images buffer = take (4096 * count) (drop 4 buffer) ≡ images_bytes (take count images)
+
+-- if there is one, the buffer has room for their number and for so many images, and a byte behind them
+abbrev pub ReachesBehind : ℕ → List ℕ → Type 0
+ReachesBehind count buffer = 0 < count → 5 + 4096 * count ≤ length buffer

@@ -10,7 +10,7 @@ use Rattle.index_model.specs.declared.format.Format.{Format}
 use Rattle.page_codec.specs.declared.page.Page.{Page}
 use Rattle.redo_log.specs.Images.{SameImages, images_of}
 use Rattle.redo_log.specs.Groups.{AreGroups, IsGroup, body, spelled_groups, SpellsGroups, log_range}
-use Rattle.redo_log.specs.Blocks.{AreLaid}
+use Rattle.redo_log.specs.Blocks.{AreOfBlocks}
 use Rattle.redo_log.specs.declared.log.Log.{Log}
 
 -- the sizes that it was made with
@@ -29,9 +29,21 @@ actions_of log = log.actions
 abbrev pub waiting_blocks : Log → List ℕ
 waiting_blocks log = log.waiting.blocks.items
 
+-- these images, in this order
+abbrev pub waiting_images : Log → List Page
+waiting_images log = log.images.images
+
 -- how many images wait for a force
 abbrev pub waiting_count : Log → ℕ
 waiting_count log = length (waiting_blocks log)
+
+-- how many of these are laid out for a force, from the first one on
+abbrev pub laid_count : Log → ℕ
+laid_count log = log.laid
+
+-- all are
+abbrev pub IsLaid : Log → Type 0
+IsLaid log = laid_count log ≡ waiting_count log
 
 -- the group that waits stands on the device after its gate, and nothing was appended since
 abbrev pub is_written : Log → Bool
@@ -62,6 +74,16 @@ pub record SameLog (old new : Log) : Type 0 where
   pub limits : limits_of new ≡ limits_of old
   pub actions : actions_of new ≡ actions_of old
 
+-- it is as it was, but for how much is laid out for a force
+pub record WaitsAlike (old new : Log) : Type 0 where
+  pub same : SameLog old new
+  pub stopped : is_stopped new ≡ is_stopped old
+  pub written : is_written new ≡ is_written old
+  pub ajar : is_ajar new ≡ is_ajar old
+  pub end : groups_end new ≡ groups_end old
+  pub blocks : waiting_blocks new ≡ waiting_blocks old
+  pub images : waiting_images new ≡ waiting_images old
+
 -- refused with Io if the device failed once in this call, and with Stopped on a log that was
 -- stopped; nothing else fails
 abbrev pub IoOrStopped : {T : Type 0} → Result T Fault → Bool → ℕ → ℕ → Type 0
@@ -88,9 +110,9 @@ pub record IsAjar (limits : Format) (start at : ℕ) (groups : List (List Page))
   pub front : OnDisk start (spelled_groups groups) m
   pub behind : OnDisk (start + at + 1) (body group ++ 0 ∷ []) m
 
--- these images wait in its buffer, one of each block that waits
+-- these images wait, one of each block that waits
 abbrev pub Waits : Log → List Page → Type 0
-Waits log waiting = AreLaid log.limits (waiting_blocks log) log.buffer.items waiting
+Waits log waiting = AreOfBlocks log.limits (waiting_blocks log) (waiting_images log) waiting
 
 -- A group stands after a gate that may be open. Its images and those of the groups are the last ones of a
 -- part of the actions, which has every one that was forced. If nothing was appended since, it is all that

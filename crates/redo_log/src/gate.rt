@@ -6,6 +6,7 @@ ghost use Rattle.device.specs.Moments.{AtEachMoment};
 ghost use Rattle.device.specs.Places.{ChangesOnly, OnDisk};
 ghost use Rattle.page_codec.specs.Places.{log_end};
 
+use crate::image_list::ImageList;
 use crate::lay::seal;
 use crate::log::Log;
 use device::Device;
@@ -38,7 +39,7 @@ pub enum Advance {
 }
 
 impl Log {
-    ghost use Rattle.redo_log.specs.Kept.{limits_of, is_stopped, is_written, is_ajar, actions_of, waiting_count, waiting_blocks, groups_end, end_with};
+    ghost use Rattle.redo_log.specs.Kept.{limits_of, is_stopped, is_written, is_ajar, actions_of, waiting_count, waiting_blocks, waiting_images, laid_count, groups_end, end_with, IsLaid};
     ghost use Rattle.redo_log.specs.Kept.{KeepsActions, ForcesAll, RestartsThroughout, SameLog, ChangesItsRange, IoOrStopped};
 
     // Closes the gate if it may be open: the group after it is out of date.
@@ -50,8 +51,10 @@ impl Log {
             (KeepsActions self.old (D.trace device.old).now self.new (D.trace device.new).now) }
         ensures moments { RestartsThroughout self.old (D.trace device.old) (D.trace device.new) }
         ensures shut { OnOk result (is_ajar self.new ≡ false) }
+        ensures laid { laid_count self.new ≡ laid_count self.old }
         ensures written { is_written self.new ≡ is_written self.old }
         ensures blocks { waiting_blocks self.new ≡ waiting_blocks self.old }
+        ensures images { waiting_images self.new ≡ waiting_images self.old }
         ensures end { groups_end self.new ≡ groups_end self.old }
         ensures same { SameLog self.old self.new }
         ensures stopped { is_stopped self.new ≡ is_err result }
@@ -77,12 +80,14 @@ impl Log {
         requires alive { is_stopped self.old ≡ false }
         requires shut { is_ajar self.old ≡ false }
         requires some { 0 < waiting_count self.old }
+        requires laid { IsLaid self.old }
         ensures keeps { OnOk result
             (KeepsActions self.old (D.trace device.old).now self.new (D.trace device.new).now) }
         ensures moments { RestartsThroughout self.old (D.trace device.old) (D.trace device.new) }
         ensures written { OnOk result (is_written self.new ≡ true) }
         ensures shut { is_ajar self.new ≡ false }
         ensures blocks { waiting_blocks self.new ≡ waiting_blocks self.old }
+        ensures images { waiting_images self.new ≡ waiting_images self.old }
         ensures end { groups_end self.new ≡ groups_end self.old }
         ensures same { SameLog self.old self.new }
         ensures stopped { is_stopped self.new ≡ is_err result }
@@ -106,12 +111,14 @@ impl Log {
     // group stands there: if not, none waits.
     fn write_group<D: Device>(&mut self, device: &mut D) -> Result<bool, Fault>
         requires range { log_end (limits_of self.old) ≤ length (D.trace device.old).now.seen }
+        requires laid { IsLaid self.old }
         ensures keeps { OnOk result
             (KeepsActions self.old (D.trace device.old).now self.new (D.trace device.new).now) }
         ensures moments { RestartsThroughout self.old (D.trace device.old) (D.trace device.new) }
         ensures answer { IfOk result (λ is_there. is_there ≡ is_written self.new) }
         ensures written { OnOk result (0 < waiting_count self.old → is_written self.new ≡ true) }
         ensures blocks { waiting_blocks self.new ≡ waiting_blocks self.old }
+        ensures images { waiting_images self.new ≡ waiting_images self.old }
         ensures end { groups_end self.new ≡ groups_end self.old }
         ensures same { SameLog self.old self.new }
         ensures stopped { is_stopped self.new ≡ is_err result }
@@ -150,6 +157,7 @@ impl Log {
         ensures written { is_written self.new ≡ is_written self.old }
         ensures ajar { OnOk result (is_written self.old ≡ true → is_ajar self.new ≡ true) }
         ensures blocks { waiting_blocks self.new ≡ waiting_blocks self.old }
+        ensures images { waiting_images self.new ≡ waiting_images self.old }
         ensures end { groups_end self.new ≡ groups_end self.old }
         ensures same { SameLog self.old self.new }
         ensures stopped { is_stopped self.new ≡ is_err result }
@@ -180,12 +188,14 @@ impl Log {
 
     /// Does the next part of a force, except for its last sync, which `force` makes. A part writes the group
     /// that waits, or it syncs that group and opens its gate. A sync of the device between two parts makes
-    /// the next one's fast. What is appended between two parts makes the next one write the group again.
+    /// the next one's fast. What is appended between two parts makes the next one write the group again. The
+    /// images that wait are laid out before (`unlaid`, `lay`).
     ///
     /// Refused with `Io` (2) if a device call fails: the log is stopped then. Refused with `Stopped` (3) on a
     /// stopped log.
     pub fn advance<D: Device>(&mut self, device: &mut D) -> Result<Advance, Fault>
         requires range { log_end (limits_of self.old) ≤ length (D.trace device.old).now.seen }
+        requires laid { IsLaid self.old }
         ensures keeps { OnOk result
             (KeepsActions self.old (D.trace device.old).now self.new (D.trace device.new).now) }
         ensures moments { RestartsThroughout self.old (D.trace device.old) (D.trace device.new) }
@@ -194,6 +204,7 @@ impl Log {
         ensures opened { IfOk result (λ advance. advance ≡ Advance.Opened
             → (is_written self.new ≡ true) × (is_ajar self.new ≡ true)) }
         ensures blocks { waiting_blocks self.new ≡ waiting_blocks self.old }
+        ensures images { waiting_images self.new ≡ waiting_images self.old }
         ensures end { groups_end self.new ≡ groups_end self.old }
         ensures same { SameLog self.old self.new }
         ensures stopped { is_stopped self.new ≡ is_err result }
@@ -229,6 +240,8 @@ impl Log {
         ensures written { OnOk result (waiting_count self.new ≡ 0) }
         ensures shut { OnOk result (is_ajar self.new ≡ false) }
         ensures waiting { OnErr result (waiting_blocks self.new ≡ waiting_blocks self.old) }
+        ensures images { OnErr result (waiting_images self.new ≡ waiting_images self.old) }
+        ensures none { OnOk result (waiting_images self.new ≡ []) }
         ensures room { OnOk result ((n : ℕ) → end_with self.new n ≤ end_with self.old (suc n)) }
         ensures refused { OnErr result ((n : ℕ) → end_with self.new n ≡ end_with self.old n) }
         ensures same { SameLog self.old self.new }
@@ -244,6 +257,8 @@ impl Log {
         device.sync()?;
         self.at += len;
         self.waiting.clear();
+        self.images = ImageList::new();
+        self.laid = 0;
         self.written = false;
         self.ajar = false;
         self.stopped = false;
@@ -252,12 +267,13 @@ impl Log {
 
     /// Makes every appended action durable, and answers how many were appended since the log was opened. It
     /// writes one image of each block that waits. If none waits, the device isn't called. What `advance` has
-    /// done of it isn't done again.
+    /// done of it isn't done again. The images that wait are laid out before (`unlaid`, `lay`).
     ///
     /// Refused with `Io` (2) if a device call fails: the log is stopped then. Refused with `Stopped` (3) on a
     /// stopped log.
     pub fn force<D: Device>(&mut self, device: &mut D) -> Result<u64, Fault>
         requires range { log_end (limits_of self.old) ≤ length (D.trace device.old).now.seen }
+        requires laid { IsLaid self.old }
 
         ensures keeps { OnOk result
             (ForcesAll self.old (D.trace device.old).now self.new (D.trace device.new).now) }
@@ -266,6 +282,8 @@ impl Log {
         ensures written { OnOk result (waiting_count self.new ≡ 0) }
         ensures shut { OnOk result (is_ajar self.new ≡ false) }
         ensures waiting { OnErr result (waiting_blocks self.new ≡ waiting_blocks self.old) }
+        ensures images { OnErr result (waiting_images self.new ≡ waiting_images self.old) }
+        ensures none { OnOk result (waiting_images self.new ≡ []) }
         // It costs at most one image of room.
         ensures room { OnOk result ((n : ℕ) → end_with self.new n ≤ end_with self.old (suc n)) }
         ensures refused { OnErr result ((n : ℕ) → end_with self.new n ≡ end_with self.old n) }

@@ -1,62 +1,24 @@
 //! Images and their number in a buffer.
 
-ghost use Rattle.std.specs.Prelude.{◌≡◌, ◌+◌, ◌*◌, ◌≤◌, ◌<◌, ◌^◌, List, [], ◌∷◌, ◌++◌, length, take, drop, vec_capacity};
+ghost use Rattle.std.specs.Prelude.{◌≡◌, suc, ◌+◌, ◌*◌, ◌≤◌, [], ◌∷◌, ◌++◌, length, take, drop, vec_capacity};
 ghost use Rattle.std.specs.Int.{w32, to_le_bytes};
-ghost use Rattle.index_model.specs.declared.format.Format.{Format};
-ghost use Rattle.page_codec.specs.declared.page.Page.{Page};
 ghost use Rattle.page_codec.specs.Spelling.{page_bytes};
-ghost use Rattle.redo_log.specs.Groups.{IsImage, AreImages};
-ghost use Rattle.redo_log.specs.Blocks.{with_block, with_blocks, with_image, with_images, AreInside, AreLaid, ReachesBehind};
+ghost use Rattle.redo_log.specs.Blocks.{ReachesBehind};
 
-use crate::waiting::Waiting;
 use page_codec::{Page, encode};
 
-/// Lays images one after the other, each in the place of the image of its block, or after those
-/// that wait if none is of its block. The buffer gets longer with them, inside of its capacity.
-pub(crate) fn lay_images(waiting: &mut Waiting, buffer: &mut Vec<u8>, images: &[Page])
-    requires inside { AreInside (length waiting.old.places.items) images.now }
-    requires room { length (with_blocks waiting.old.blocks.items images.now)
-        ≤ vec_capacity waiting.old.blocks }
-    requires reserved { 5 + 4096 * length (with_blocks waiting.old.blocks.items images.now)
-        ≤ vec_capacity buffer.old }
-    requires reaches { ReachesBehind waiting.old.blocks.items buffer.old.items }
-    ensures laid { (limits : Format) (laid : List Page) → AreImages limits images.now
-        → AreLaid limits waiting.old.blocks.items buffer.old.items laid
-        → AreLaid limits waiting.new.blocks.items buffer.new.items (with_images laid images.now) }
-    ensures reached { ReachesBehind waiting.new.blocks.items buffer.new.items }
-    ensures buffer { vec_capacity buffer.old ≤ vec_capacity buffer.new }
-    ensures blocks { waiting.new.blocks.items
-        ≡ with_blocks waiting.old.blocks.items images.now }
-    ensures places { length waiting.new.places.items ≡ length waiting.old.places.items }
-    ensures capacity { vec_capacity waiting.new.blocks ≡ vec_capacity waiting.old.blocks }
+/// Lays an image out in the buffer, behind the `count` images that are laid there. The buffer gets longer
+/// with them, inside of its capacity.
+pub(crate) fn lay_image(buffer: &mut Vec<u8>, count: usize, image: &Page)
+    requires reserved { 5 + 4096 * suc count ≤ vec_capacity buffer.old }
+    requires reaches { ReachesBehind count buffer.old.items }
+    ensures laid { take (4096 * suc count) (drop 4 buffer.new.items)
+        ≡ take (4096 * count) (drop 4 buffer.old.items) ++ page_bytes image.now }
+    ensures reached { ReachesBehind (suc count) buffer.new.items }
+    ensures capacity { vec_capacity buffer.old ≤ vec_capacity buffer.new }
 {
-    let mut rest = images;
-    while let [image, behind @ ..] = rest {
-        lay_image(waiting, buffer, image);
-        rest = behind;
-    }
-}
-
-/// Lays one image so.
-fn lay_image(waiting: &mut Waiting, buffer: &mut Vec<u8>, image: &Page)
-    requires inside { image.now.block < length waiting.old.places.items }
-    requires room { length (with_block waiting.old.blocks.items image.now.block)
-        ≤ vec_capacity waiting.old.blocks }
-    requires reserved { 5 + 4096 * length (with_block waiting.old.blocks.items image.now.block)
-        ≤ vec_capacity buffer.old }
-    requires reaches { ReachesBehind waiting.old.blocks.items buffer.old.items }
-    ensures laid { (limits : Format) (laid : List Page) → IsImage limits image.now
-        → AreLaid limits waiting.old.blocks.items buffer.old.items laid
-        → AreLaid limits waiting.new.blocks.items buffer.new.items (with_image laid image.now) }
-    ensures reached { ReachesBehind waiting.new.blocks.items buffer.new.items }
-    ensures buffer { vec_capacity buffer.old ≤ vec_capacity buffer.new }
-    ensures blocks { waiting.new.blocks.items
-        ≡ with_block waiting.old.blocks.items image.now.block }
-    ensures places { length waiting.new.places.items ≡ length waiting.old.places.items }
-    ensures capacity { vec_capacity waiting.new.blocks ≡ vec_capacity waiting.old.blocks }
-{
-    let at = 4 + 4096 * waiting.take(image.block);
-    lengthen(buffer, 5 + 4096 * waiting.count() as usize);
+    let at = 4 + 4096 * count;
+    lengthen(buffer, at + 4097);
     put_image(&mut buffer[at..at + 4096], image);
 }
 

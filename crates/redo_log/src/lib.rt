@@ -4,6 +4,7 @@
 
 mod gate;
 mod image;
+mod image_list;
 mod lay;
 mod log;
 mod reading;

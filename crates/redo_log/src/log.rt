@@ -6,10 +6,13 @@ ghost use Rattle.index_model.specs.Limits.{AreLimits};
 ghost use Rattle.page_codec.specs.Places.{log_start, log_end};
 ghost use Rattle.device.specs.Disk.{DiskMoment, CountsFailures};
 ghost use Rattle.redo_log.specs.Groups.{AreImages, IsClosedAtStart};
-ghost use Rattle.redo_log.specs.Blocks.{with_blocks, new_count, ReachesBehind};
+ghost use Rattle.page_codec.specs.declared.page.Page.{Page};
+ghost use Rattle.page_codec.specs.Spelling.{page_bytes};
+ghost use Rattle.redo_log.specs.Blocks.{image_blocks, with_blocks, with_images, new_count, AreLaid, ReachesBehind};
 
 use crate::gate::shut;
-use crate::lay::lay_images;
+use crate::image_list::ImageList;
+use crate::lay::lay_image;
 use crate::reading::note_groups;
 use crate::waiting::Waiting;
 use device::Device;
@@ -18,7 +21,7 @@ use page_codec::{LOG_START, Page};
 use std::alloc::Global;
 
 /// A log, which lies in its range of a device. The room for the group that waits was kept free when it was
-/// opened, and is used as images are laid.
+/// opened, and is used as images are laid out for a force.
 #[derive(Drop)]
 pub struct Log {
     pub(crate) limits: Format,
@@ -32,13 +35,20 @@ pub struct Log {
     pub(crate) ajar: bool,
     /// The blocks whose images wait, one image for each.
     pub(crate) waiting: Waiting,
-    /// The group that waits: room for the number, and its images. What it has no images for it doesn't
-    /// have as yet, inside of its capacity.
+    /// These images.
+    pub(crate) images: ImageList,
+    /// How many of them are laid out in the buffer, from the first one on.
+    pub(crate) laid: usize,
+    /// The group that waits: room for the number, and its images, as far as they are laid out. What it has no
+    /// images for it doesn't have as yet, inside of its capacity.
     pub(crate) buffer: Vec<u8>,
     ghost least: { 65536 ≤ limits.log_bytes },
     ghost most: { limits.log_bytes ≤ 16777216 },
     ghost reserved: { limits.log_bytes ≤ vec_capacity buffer },
-    ghost reaches: { ReachesBehind waiting.blocks.items buffer.items },
+    ghost named: { image_blocks images.images ≡ waiting.blocks.items },
+    ghost few_laid: { laid ≤ length waiting.blocks.items },
+    ghost laid_out: { AreLaid laid images.images buffer.items },
+    ghost reaches: { ReachesBehind laid buffer.items },
     ghost room: { at + 1 ≤ limits.log_bytes },
     ghost fits: { 0 < length waiting.blocks.items
         → at + (6 + 4096 * length waiting.blocks.items) ≤ limits.log_bytes },
@@ -49,8 +59,9 @@ pub struct Log {
 }
 
 impl Log {
-    ghost use Rattle.redo_log.specs.Kept.{limits_of, is_stopped, is_ajar, is_written, actions_of, waiting_count, waiting_blocks, groups_end, end_with, ImagesFit, TakesNoMore};
-    ghost use Rattle.redo_log.specs.Kept.{AddsAction, ForgetsForced, RestartsOrEmptyThroughout, SameLog, ChangesItsRange, KeepsWhileUntouched, WhatItKeepsRestarts, IoOrStopped};
+    ghost use Rattle.std.specs.Prelude.{Some, IfSome, IfNone, slice_get};
+    ghost use Rattle.redo_log.specs.Kept.{limits_of, is_stopped, is_ajar, is_written, actions_of, waiting_count, waiting_blocks, waiting_images, laid_count, groups_end, end_with, ImagesFit, TakesNoMore};
+    ghost use Rattle.redo_log.specs.Kept.{AddsAction, KeepsActions, IsLaid, WaitsAlike, ForgetsForced, RestartsOrEmptyThroughout, SameLog, ChangesItsRange, KeepsWhileUntouched, WhatItKeepsRestarts, IoOrStopped};
     ghost use Rattle.redo_log.specs.Reading.{IsReplay, IsOpened, IsDamaged, ReplayFails};
 
     /// The sizes that it was opened with.
@@ -98,7 +109,8 @@ impl Log {
     }
 
     /// Takes the images of one action, which wait for the next `force`: each in the place of the
-    /// image of its block, if one waits. It answers the action's number, counted from 1 since
+    /// image of its block, if one waits. It copies no page: before the force each image that waits
+    /// is laid out from a page with its bytes. It answers the action's number, counted from 1 since
     /// the log was opened.
     ///
     /// Refused, with nothing changed: on a stopped log, or if the greatest number was given (`Stopped`, 3);
@@ -114,6 +126,8 @@ impl Log {
             → end_with self.new n ≤ end_with self.old (length images.now + n)) }
         ensures blocks { OnOk result
             (waiting_blocks self.new ≡ with_blocks (waiting_blocks self.old) images.now) }
+        ensures images { OnOk result
+            (waiting_images self.new ≡ with_images (waiting_images self.old) images.now) }
         // An image of a block that waits takes no room.
         ensures waiting { OnOk result (waiting_count self.new
             ≡ waiting_count self.old + new_count (waiting_blocks self.old) images.now) }
@@ -136,9 +150,35 @@ impl Log {
             return Err(Fault::LogFull);
         }
         self.written = false;
-        lay_images(&mut self.waiting, &mut self.buffer, images);
+        self.laid = 0;
+        self.images.take(images);
+        self.waiting.take_all(images);
         self.actions += 1;
         Ok(self.actions)
+    }
+
+    /// The block of the next image that is to be laid out for a force. None: all that wait are.
+    pub fn unlaid(&self) -> Option<u32>
+        ensures some { IfSome result (λ block. (laid_count self.now < waiting_count self.now)
+            × (slice_index (waiting_blocks self.now) (laid_count self.now) ≡ block)) }
+        ensures none { IfNone result (IsLaid self.now) }
+    {
+        self.waiting.block_at(self.laid)
+    }
+
+    /// Lays out the next image that waits, from a page with its bytes. `unlaid` tells its block. What waits,
+    /// and what the log keeps, stays as it is.
+    pub fn lay(&mut self, image: &Page)
+        requires next { laid_count self.old < waiting_count self.old }
+        requires same { (page : Page)
+            → slice_get (waiting_images self.old) (laid_count self.old) ≡ Some page
+            → page_bytes image.now ≡ page_bytes page }
+        ensures laid { laid_count self.new ≡ suc (laid_count self.old) }
+        ensures keeps { (m : DiskMoment) → KeepsActions self.old m self.new m }
+        ensures waits { WaitsAlike self.old self.new }
+    {
+        lay_image(&mut self.buffer, self.laid, image);
+        self.laid += 1;
     }
 
     /// Does nothing: whatever changes outside of the log's range, the log keeps what it kept, and a
@@ -165,6 +205,7 @@ impl Log {
         ensures closed { OnOk result (groups_end self.new ≡ 0) }
         ensures waiting { waiting_count self.new ≡ waiting_count self.old }
         ensures blocks { waiting_blocks self.new ≡ waiting_blocks self.old }
+        ensures images { waiting_images self.new ≡ waiting_images self.old }
         ensures room { OnOk result ((n : ℕ)
             → end_with self.new n ≡ 6 + 4096 * (waiting_count self.old + n)) }
         ensures refused { OnErr result ((n : ℕ) → end_with self.new n ≡ end_with self.old n) }
@@ -218,6 +259,8 @@ impl Log {
             written: false,
             ajar: false,
             waiting,
+            images: ImageList::new(),
+            laid: 0,
             buffer,
         })
     }

@@ -1,7 +1,7 @@
 //! The blocks whose images wait, and where each of these images lies.
 
 ghost use Rattle.std.specs.Prelude.{◌≡◌, ℕ, ◌<◌, ◌≤◌, false, [], ◌∷◌, ◌++◌, length, slice_index, vec_capacity, IfOk, IfSome, IfNone};
-ghost use Rattle.redo_log.specs.Blocks.{image_blocks, is_among_blocks, with_block, new_count, AreInside};
+ghost use Rattle.redo_log.specs.Blocks.{image_blocks, is_among_blocks, with_block, with_blocks, new_count, AreInside};
 
 use page_codec::Page;
 use std::alloc::{AllocError, Global};
@@ -80,9 +80,9 @@ impl Waiting {
         count
     }
 
-    /// The place of the block's image: if none waits, a new one after the others, and then the
-    /// block waits too.
-    pub(crate) fn take(&mut self, block: u32) -> usize
+    // The place of the block's image: if none waits, a new one after the others, and then the
+    // block waits too.
+    fn take(&mut self, block: u32) -> usize
         requires inside { block < length self.old.places.items }
         requires room { length (with_block self.old.blocks.items block)
             ≤ vec_capacity self.old.blocks }
@@ -99,6 +99,35 @@ impl Waiting {
         self.places[block as usize] = place as u32;
         self.blocks.push_reserved(block);
         place
+    }
+
+    /// The blocks of these images wait too, after those that wait, each once.
+    pub(crate) fn take_all(&mut self, images: &[Page])
+        requires inside { AreInside (length self.old.places.items) images.now }
+        requires room { length (with_blocks self.old.blocks.items images.now)
+            ≤ vec_capacity self.old.blocks }
+        ensures blocks { self.new.blocks.items ≡ with_blocks self.old.blocks.items images.now }
+        ensures places { length self.new.places.items ≡ length self.old.places.items }
+        ensures capacity { vec_capacity self.new.blocks ≡ vec_capacity self.old.blocks }
+    {
+        let mut rest = images;
+        while let [image, behind @ ..] = rest {
+            self.take(image.block);
+            rest = behind;
+        }
+    }
+
+    /// The block at this place of those that wait.
+    pub(crate) fn block_at(&self, place: usize) -> Option<u32>
+        ensures some { IfSome result (λ block. (place < length self.now.blocks.items)
+            × (slice_index self.now.blocks.items place ≡ block)) }
+        ensures none { IfNone result (length self.now.blocks.items ≤ place) }
+    {
+        if place < self.blocks.len() {
+            Some(self.blocks[place])
+        } else {
+            None
+        }
     }
 
     /// None wait any more.

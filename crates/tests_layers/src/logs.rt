@@ -1,5 +1,11 @@
 //! A redo log over a device in memory.
 
+ghost use Rattle.std.specs.Prelude.{◌≡◌, ◌+◌, ◌<◌, ◌≤◌, ◌++◌, ℕ, IfOk, OnOk, length, slice_index, vec_capacity};
+ghost use Rattle.std.specs.Option.{option_map};
+ghost use Rattle.page_codec.specs.Spelling.{page_bytes};
+ghost use Rattle.redo_log.specs.Images.{last_image};
+ghost use Rattle.redo_log.specs.Kept.{limits_of, laid_count, waiting_blocks, waiting_count, waiting_images, IsLaid};
+
 use crate::trees::{limits, marked};
 use device::{CrashImage, Device, MemDevice};
 use index_model::{Fault, Format};
@@ -13,7 +19,18 @@ const PAGES: u32 = 32;
 
 const LEN: u64 = 4096 + 65_536 + 4096;
 
-fn replay(alloc: Global, device: &mut MemDevice) -> Result<Replayed, Fault> {
+// A log, and the pages that were appended since it was forced last.
+#[derive(Drop)]
+struct FilledLog {
+    log: Log,
+    pages: Vec<Page>,
+    ghost same: { (block : ℕ) → option_map page_bytes (last_image pages.items block)
+        ≡ option_map page_bytes (last_image (waiting_images log) block) },
+}
+
+fn replay(alloc: Global, device: &mut MemDevice) -> Result<Replayed, Fault>
+    ensures { IfOk result (λ found. waiting_count found.log ≡ 0) }
+{
     let format = Format::new(&limits(PAGES));
     if !format.are_valid() || device.len() < LOG_START + u64::from(format.log_bytes) {
         return Err(Fault::DeviceTooSmall);
@@ -21,45 +38,121 @@ fn replay(alloc: Global, device: &mut MemDevice) -> Result<Replayed, Fault> {
     Log::replay(alloc, device, format)
 }
 
-fn append(log: &mut Log, pages: &[Page]) -> Result<u64, Fault> {
-    if !are_images(&log.limits(), pages) {
-        return Err(Fault::PageDamaged(0));
+// A log in which nothing waits.
+fn filled(alloc: Global, log: Log) -> FilledLog
+    requires { waiting_count log ≡ 0 }
+{
+    FilledLog {
+        log,
+        pages: Vec::new(alloc),
     }
-    log.append(pages)
 }
 
-fn force(log: &mut Log, device: &mut MemDevice) -> Result<u64, Fault> {
-    if device.len() < LOG_START + u64::from(log.limits().log_bytes) {
+// Copies the pages to the end of the list, which has room for them.
+fn copy_all(list: &mut Vec<Page>, pages: &[Page])
+    requires { length list.old.items + length pages.now ≤ vec_capacity list.old }
+    ensures { list.new.items ≡ list.old.items ++ pages.now }
+{
+    let mut rest = pages;
+    while let [page, behind @ ..] = rest {
+        list.push_reserved(page.copy());
+        rest = behind;
+    }
+}
+
+fn append(log: &mut FilledLog, pages: &[Page]) -> Result<u64, Fault> {
+    if !are_images(&log.log.limits(), pages) {
+        return Err(Fault::PageDamaged(0));
+    }
+    if log.pages.reserve(pages.len()).is_err() {
+        return Err(Fault::NoMemory);
+    }
+    let number = log.log.append(pages)?;
+    copy_all(&mut log.pages, pages);
+    Ok(number)
+}
+
+// The last page of the block among these.
+fn last_of(pages: &[Page], block: u32) -> Option<&Page>
+    ensures { option_map (λ page. page.now) result ≡ last_image pages.now block }
+{
+    let mut found = None;
+    let mut rest = pages;
+    while let [page, behind @ ..] = rest {
+        if page.block == block {
+            found = Some(page);
+        }
+        rest = behind;
+    }
+    found
+}
+
+// Lays out the next image that waits, which is of this block.
+fn lay_next(log: &mut FilledLog, block: u32) -> Result<(), Fault>
+    requires next { laid_count log.old.log < waiting_count log.old.log }
+    requires block { slice_index (waiting_blocks log.old.log) (laid_count log.old.log) ≡ block }
+    ensures limits { limits_of log.new.log ≡ limits_of log.old.log }
+    ensures count { waiting_count log.new.log ≡ waiting_count log.old.log }
+    ensures more { OnOk result (laid_count log.old.log < laid_count log.new.log) }
+{
+    match last_of(&log.pages, block) {
+        Some(page) => {
+            log.log.lay(page);
+            Ok(())
+        }
+        None => Err(Fault::LogDamaged),
+    }
+}
+
+// Lays out all images that wait.
+fn lay(log: &mut FilledLog) -> Result<(), Fault>
+    ensures laid { OnOk result (IsLaid log.new.log) }
+    ensures limits { limits_of log.new.log ≡ limits_of log.old.log }
+{
+    let mut next = log.log.unlaid();
+    while let Some(block) = next {
+        lay_next(log, block)?;
+        next = log.log.unlaid();
+    }
+    Ok(())
+}
+
+fn force(log: &mut FilledLog, device: &mut MemDevice) -> Result<u64, Fault> {
+    if device.len() < LOG_START + u64::from(log.log.limits().log_bytes) {
         return Err(Fault::DeviceTooSmall);
     }
-    log.force(device)
+    lay(log)?;
+    let number = log.log.force(device)?;
+    log.pages.clear();
+    Ok(number)
 }
 
 // The next part of a force: 0 where nothing waits, 1 where the group was written, 2 where its gate was
 // opened.
-fn advance(log: &mut Log, device: &mut MemDevice) -> Result<u32, Fault> {
-    if device.len() < LOG_START + u64::from(log.limits().log_bytes) {
+fn advance(log: &mut FilledLog, device: &mut MemDevice) -> Result<u32, Fault> {
+    if device.len() < LOG_START + u64::from(log.log.limits().log_bytes) {
         return Err(Fault::DeviceTooSmall);
     }
-    match log.advance(device)? {
+    lay(log)?;
+    match log.log.advance(device)? {
         Advance::Nothing => Ok(0),
         Advance::Written => Ok(1),
         Advance::Opened => Ok(2),
     }
 }
 
-fn reset(log: &mut Log, device: &mut MemDevice) -> Result<(), Fault> {
-    if log.is_ajar() {
+fn reset(log: &mut FilledLog, device: &mut MemDevice) -> Result<(), Fault> {
+    if log.log.is_ajar() {
         return Err(Fault::LogDamaged);
     }
-    if device.len() < LOG_START + u64::from(log.limits().log_bytes) {
+    if device.len() < LOG_START + u64::from(log.log.limits().log_bytes) {
         return Err(Fault::DeviceTooSmall);
     }
-    log.reset(device)
+    log.log.reset(device)
 }
 
 // Action k changes two of three blocks to cycle k.
-fn act(log: &mut Log, k: u32) -> Result<u64, Fault> {
+fn act(log: &mut FilledLog, k: u32) -> Result<u64, Fault> {
     append(log, &[marked(k % 3 + 1, k), marked((k % 3 + 1) % 3 + 1, k)])
 }
 
@@ -125,7 +218,7 @@ struct Run {
     failed: bool,
 }
 
-fn two_then_one(log: &mut Log, device: &mut MemDevice, run: &mut Run) -> Result<(), Fault> {
+fn two_then_one(log: &mut FilledLog, device: &mut MemDevice, run: &mut Run) -> Result<(), Fault> {
     act(log, 1)?;
     run.appended = 2;
     act(log, 2)?;
@@ -139,7 +232,11 @@ fn two_then_one(log: &mut Log, device: &mut MemDevice, run: &mut Run) -> Result<
     Ok(())
 }
 
-fn closed_then_one(log: &mut Log, device: &mut MemDevice, run: &mut Run) -> Result<(), Fault> {
+fn closed_then_one(
+    log: &mut FilledLog,
+    device: &mut MemDevice,
+    run: &mut Run,
+) -> Result<(), Fault> {
     run.closing = true;
     reset(log, device)?;
     *run = Run {
@@ -159,7 +256,7 @@ fn closed_then_one(log: &mut Log, device: &mut MemDevice, run: &mut Run) -> Resu
 }
 
 // A group is written, and again with one action more, its gate is opened, and it is written once more.
-fn parts_then_one(log: &mut Log, device: &mut MemDevice, run: &mut Run) -> Result<(), Fault> {
+fn parts_then_one(log: &mut FilledLog, device: &mut MemDevice, run: &mut Run) -> Result<(), Fault> {
     advance(log, device)?;
     act(log, 6)?;
     run.appended = 7;
@@ -174,7 +271,7 @@ fn parts_then_one(log: &mut Log, device: &mut MemDevice, run: &mut Run) -> Resul
     Ok(())
 }
 
-fn drive(log: &mut Log, device: &mut MemDevice) -> Run {
+fn drive(log: &mut FilledLog, device: &mut MemDevice) -> Run {
     let mut run = Run {
         first: 1,
         forced: 1,
@@ -205,10 +302,10 @@ fn is_allowed(run: Run, replayed: &Replayed) -> bool {
 }
 
 // A log that has nothing, and the device that it is on.
-fn fresh(alloc: Global) -> Result<(Log, MemDevice), Fault> {
+fn fresh(alloc: Global) -> Result<(FilledLog, MemDevice), Fault> {
     let mut device = MemDevice::new(alloc, LEN)?;
-    let log = replay(alloc, &mut device)?.log;
-    Ok((log, device))
+    let found = replay(alloc, &mut device)?;
+    Ok((filled(alloc, found.log), device))
 }
 
 // What is left by a crash, read by a restart.
@@ -226,7 +323,7 @@ fn put(device: &mut MemDevice, bytes: &[u8]) -> Result<(), Fault> {
 }
 
 // Whether this holds of a log that has nothing, and the device that it is on.
-fn over<F: FnOnce(Global, &mut Log, &mut MemDevice) -> bool>(
+fn over<F: FnOnce(Global, &mut FilledLog, &mut MemDevice) -> bool>(
     alloc: Global,
     is_right: F,
 ) -> Result<bool, Fault>
@@ -248,8 +345,8 @@ fn count_again(alloc: Global, device: &mut MemDevice) -> Result<u32, Fault> {
     Ok(count(&replayed))
 }
 
-fn room(log: &Log) -> u32 {
-    log.room()
+fn room(log: &FilledLog) -> u32 {
+    log.log.room()
 }
 
 // The device refuses a call, or all from that on.
@@ -298,7 +395,7 @@ fn a_crash_leaves_a_first_part(rt: HostRuntime) -> Result<(), Fail> {
 }
 
 // Whether so many images are appended, each of a block of its own, with as many actions.
-fn appends(log: &mut Log, count: u32) -> bool {
+fn appends(log: &mut FilledLog, count: u32) -> bool {
     for k in 0..count {
         if append(log, &[marked(k.saturating_add(1), 1)]) != Ok(u64::from(k) + 1) {
             return false;
@@ -308,7 +405,7 @@ fn appends(log: &mut Log, count: u32) -> bool {
 }
 
 // Whether each of fifteen images takes room.
-fn fills(log: &mut Log) -> bool {
+fn fills(log: &mut FilledLog) -> bool {
     for k in 0..15 {
         if append(log, &[marked(k + 1, k)]) != Ok(u64::from(k) + 1) || room(log) != 14 - k {
             return false;
@@ -317,7 +414,7 @@ fn fills(log: &mut Log) -> bool {
     true
 }
 
-fn has_room_for_fifteen(alloc: Global, log: &mut Log, device: &mut MemDevice) -> bool {
+fn has_room_for_fifteen(alloc: Global, log: &mut FilledLog, device: &mut MemDevice) -> bool {
     room(log) == 15
         && fills(log)
         && append(log, &[marked(16, 15)]) == Err(Fault::LogFull)
@@ -334,7 +431,7 @@ fn a_fresh_log_holds_fifteen_images(rt: HostRuntime) {
 }
 
 // At last twice in one action, and one of another block.
-fn takes_room_once(alloc: Global, log: &mut Log, device: &mut MemDevice) -> bool {
+fn takes_room_once(alloc: Global, log: &mut FilledLog, device: &mut MemDevice) -> bool {
     room(log) == 15
         && append(log, &[marked(1, 1)]) == Ok(1)
         && append(log, &[marked(1, 2)]) == Ok(2)
@@ -352,7 +449,7 @@ fn a_second_image_of_a_block_takes_no_room(rt: HostRuntime) {
 }
 
 // Whether forty images of a block are appended.
-fn appends_forty(log: &mut Log) -> bool {
+fn appends_forty(log: &mut FilledLog) -> bool {
     for k in 1..41 {
         if append(log, &[marked(7, k)]) != Ok(u64::from(k)) {
             return false;
@@ -361,7 +458,7 @@ fn appends_forty(log: &mut Log) -> bool {
     true
 }
 
-fn has_one_image(alloc: Global, log: &mut Log, device: &mut MemDevice) -> bool {
+fn has_one_image(alloc: Global, log: &mut FilledLog, device: &mut MemDevice) -> bool {
     appends_forty(log)
         && force(log, device) == Ok(40)
         && group_count(device, 0) == 1
@@ -379,7 +476,7 @@ fn forty_images_of_a_block_are_one(rt: HostRuntime) {
     assert!(rt; over(rt.alloc(), has_one_image) == Ok(true));
 }
 
-fn keeps_the_image(alloc: Global, log: &mut Log, device: &mut MemDevice) -> bool {
+fn keeps_the_image(alloc: Global, log: &mut FilledLog, device: &mut MemDevice) -> bool {
     appends(log, 13)
         && force(log, device) == Ok(13)
         && room(log) == 2
@@ -399,11 +496,11 @@ fn a_refused_append_replaces_no_image(rt: HostRuntime) {
 }
 
 // Whether the action before a reset is forgotten.
-fn forgets(alloc: Global, log: &mut Log, device: &mut MemDevice) -> bool {
+fn forgets(alloc: Global, log: &mut FilledLog, device: &mut MemDevice) -> bool {
     reset(log, device) == Ok(()) && count_again(alloc, device) == Ok(0)
 }
 
-fn keeps_what_waits(alloc: Global, log: &mut Log, device: &mut MemDevice) -> bool {
+fn keeps_what_waits(alloc: Global, log: &mut FilledLog, device: &mut MemDevice) -> bool {
     act(log, 1) == Ok(1)
         && force(log, device) == Ok(1)
         && act(log, 2) == Ok(2)
@@ -418,7 +515,7 @@ fn a_reset_keeps_what_waits(rt: HostRuntime) {
     assert!(rt; over(rt.alloc(), keeps_what_waits) == Ok(true));
 }
 
-fn answers_stopped(_alloc: Global, log: &mut Log, device: &mut MemDevice) -> bool {
+fn answers_stopped(_alloc: Global, log: &mut FilledLog, device: &mut MemDevice) -> bool {
     if act(log, 1) != Ok(1) {
         return false;
     }
@@ -434,7 +531,7 @@ fn a_stopped_log_answers_stopped(rt: HostRuntime) {
     assert!(rt; over(rt.alloc(), answers_stopped) == Ok(true));
 }
 
-fn makes_no_call(alloc: Global, log: &mut Log, device: &mut MemDevice) -> bool {
+fn makes_no_call(alloc: Global, log: &mut FilledLog, device: &mut MemDevice) -> bool {
     refuse(device, 1, false);
     force(log, device) == Ok(0)
         && reset(log, device) == Ok(())
@@ -453,7 +550,7 @@ fn count_with_an_open_gate(alloc: Global, device: &MemDevice) -> Result<u32, Fau
     count_again(alloc, &mut torn)
 }
 
-fn is_taken_again(alloc: Global, log: &mut Log, device: &mut MemDevice) -> bool {
+fn is_taken_again(alloc: Global, log: &mut FilledLog, device: &mut MemDevice) -> bool {
     act(log, 1) == Ok(1)
         && force(log, device) == Ok(1)
         && forgets(alloc, log, device)
@@ -487,7 +584,7 @@ fn left_by(alloc: Global, device: &MemDevice, image: CrashImage) -> Result<[u32;
     Ok(found(&replayed))
 }
 
-fn goes_in_parts(alloc: Global, log: &mut Log, device: &mut MemDevice) -> bool {
+fn goes_in_parts(alloc: Global, log: &mut FilledLog, device: &mut MemDevice) -> bool {
     advance(log, device) == Ok(0)
         && act(log, 1) == Ok(1)
         && advance(log, device) == Ok(1)
@@ -507,7 +604,7 @@ fn a_force_goes_in_parts(rt: HostRuntime) {
 }
 
 // A group that was written, and one whose gate was opened, are out of date once more is appended.
-fn is_written_again(alloc: Global, log: &mut Log, device: &mut MemDevice) -> bool {
+fn is_written_again(alloc: Global, log: &mut FilledLog, device: &mut MemDevice) -> bool {
     act(log, 1) == Ok(1)
         && advance(log, device) == Ok(1)
         && act(log, 2) == Ok(2)

@@ -9,7 +9,8 @@ use Rattle.redo_log.specs.Kept.{end_with, waiting_blocks}
 use Rattle.page_store.specs.Changing.{AreActed, used_after}
 use Rattle.page_store.specs.Histories.{pages_now}
 use Rattle.page_store.specs.Logged.{held_of}
-use Rattle.page_store.specs.Writing.{HoldsPages}
+use Rattle.page_store.specs.Writing.{HoldsPages, HoldsWaiting}
+use Rattle.page_store.proofs.Holding.{waits_acted}
 use Rattle.page_store.proofs.Acting.{are_images, alive_of}
 use Rattle.page_store.proofs.ActFollows.{follows_act}
 use Rattle.page_store.proofs.Acts.{pages_acted, length_acted}
@@ -90,6 +91,13 @@ invariant_of-self-2-clause-holds g c =
     (subst (λ (n : ℕ). HoldsPages held.limits (with_pages pages c.args.pages.now) n pool honest m) (sym (number_is g here))
     (holds_acted held.limits pages held.acts held.pool pool honest m c.args.pages.now held.holds held.stored (subst (λ (n : ℕ). n ≤ held.limits.pages) held.used_is held.few) c.requires.actable
     (subst (λ (n : ℕ). AreActed held.pool pool c.args.pages.now n) (number_is g here) c.change_all.ensures)))
+
+pub invariant_of-self-2-clause-waits : goal.invariant_of-self-2-clause-waits
+invariant_of-self-2-clause-waits g c =
+    let here = (goal.at.invariant_of-self-2-clause-waits g c).After-note in
+    let held = c.args.self.now in
+    subst (λ (l : List Page). HoldsWaiting l held.durable c.change_all.new.pool) (sym c.in_ok-number.ensures.images)
+    (waits_acted held.log c.args.pages.now held.durable c.in_ok-number.number held.pool c.change_all.new.pool (omega (arith, number_is g here, held.not_ahead)) held.waits c.change_all.ensures)
 
 pub returns-clause-steps : goal.returns-clause-steps
 returns-clause-steps g c =

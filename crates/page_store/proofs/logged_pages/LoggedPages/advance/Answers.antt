@@ -1,7 +1,10 @@
-use Rattle.std.proofs.Common.{rules, ◌≡◌, ◌∙◌, sym, subst}
+use Rattle.std.proofs.Common.{rules, List, ◌≡◌, ◌∙◌, sym, subst}
 use Rattle.page_store.proofs.Acting.{failures_rise, stop_fails}
 use Rattle.page_store.proofs.ForceFollows.{follows_advanced}
 use Rattle.page_store.proofs.Imports.{Format, held_of, ChangesOnly, goes_now, same_only}
+use Rattle.page_store.proofs.Holding.{waits_changed}
+use Rattle.page_store.specs.Writing.{HoldsWaiting}
+use Rattle.page_codec.specs.declared.page.Page.{Page}
 use Rattle.page_store.proofs.Keeping.{holds_logged}
 use Rattle.page_store.proofs.logged_pages.LoggedPages.advance.Given.{Over}
 use Rattle.page_store.proofs.logged_pages.LoggedPages.advance.Goals.{After-advance}
@@ -26,6 +29,7 @@ invariant_of-self g c =
       reach = held.reach;
       holds = holds_logged held.limits _ held.acts held.pool _ (g.D.Device.trace held.device).now (g.D.Device.trace c.advance.new.device).now held.holds
           _ c.advance.ensures.honest (only g (goal.at.invariant_of-self g c).After-advance);
+      waits = subst (λ (l : List Page). HoldsWaiting l held.durable held.pool) (sym c.advance.ensures.images) held.waits;
       counted = search rules;
       not_ahead = held.not_ahead;
       forced = search rules;
@@ -35,9 +39,12 @@ invariant_of-self g c =
       promise = held.promise;
     }
 
+pub advance-requires-clause-held : goal.advance-requires-clause-held
+advance-requires-clause-held g c = waits_changed _ c.args.self.now.durable c.args.self.now.pool c.args.self.now.waits
+
 pub returns-clause-steps : goal.returns-clause-steps
 returns-clause-steps g c =
-    follows_advanced (held_of g.D.Device c.args.self.now) c.advance.new.self (g.D.Device.trace c.advance.new.device) (g.D.Device.is_honest c.advance.new.device) (g.D.Device.failures c.advance.new.device)
+    follows_advanced (held_of g.D.Device c.args.self.now) c.advance.new.log (g.D.Device.trace c.advance.new.device) (g.D.Device.is_honest c.advance.new.device) (g.D.Device.failures c.advance.new.device)
     c.advance.ensures.same.limits (sym c.is_stopped.ensures ∙ c.if-is_stopped.false) c.advance.ensures.moments c.advance.ensures.outside c.advance.ensures.len c.advance.ensures.honest
     (failures_rise c.advance.result _ _ _ c.advance.ensures.cause) c.advance.result c.advance.ensures.stopped c.advance.ensures.keeps
     (λ failed. stop_fails c.advance.result _ _ _ c.advance.ensures.cause (sym c.is_stopped.ensures ∙ c.if-is_stopped.false) failed)

@@ -1,8 +1,10 @@
-use Rattle.std.proofs.Common.{rules, ◌≡◌, ◌≤◌, ◌∙◌, true, false, subst, sym, ap, arith}
+use Rattle.std.proofs.Common.{rules, List, ◌≡◌, ◌≤◌, ◌∙◌, true, false, subst, sym, ap, arith}
 use Rattle.page_store.proofs.Imports.{is_err, ChangesOnly, goes_now, same_only, Format, whole_room, is_stopped, limits_of, forgets_all, pages_now, held_of}
 use Rattle.page_store.proofs.Misfits.{whole_left}
 use Rattle.page_store.proofs.Acting.{failures_rise, stop_fails}
 use Rattle.page_store.proofs.CloseFollows.{IsClosing, follows_closed, home_firm}
+use Rattle.page_store.specs.Writing.{HoldsWaiting}
+use Rattle.page_codec.specs.declared.page.Page.{Page}
 use Rattle.page_store.proofs.Keeping.{holds_logged}
 use Rattle.page_store.proofs.logged_pages.LoggedPages.close.Given.{Over}
 use Rattle.page_store.proofs.logged_pages.LoggedPages.close.Goals.{After-reset}
@@ -44,6 +46,7 @@ invariant_of-self g c =
       reach = held.reach;
       holds = holds_logged held.limits (pages_now held.history) held.acts held.pool _ (g.D.Device.trace held.device).now
           (g.D.Device.trace c.reset.new.device).now held.holds _ c.reset.ensures.honest (only g (goal.at.invariant_of-self g c).After-reset);
+      waits = subst (λ (l : List Page). HoldsWaiting l held.durable held.pool) (sym c.reset.ensures.images) held.waits;
       counted = search rules;
       not_ahead = held.not_ahead;
       forced = search rules;
@@ -68,6 +71,11 @@ invariant_of-self-2-clause-holds g c =
     let held = c.args.self.now in
     holds_logged held.limits (pages_now held.history) held.acts held.pool _ (g.D.Device.trace held.device).now
     (g.D.Device.trace c.reset.new.device).now held.holds _ c.reset.ensures.honest (only g (goal.at.invariant_of-self-2-clause-holds g c).After-reset)
+
+pub invariant_of-self-2-clause-waits : goal.invariant_of-self-2-clause-waits
+invariant_of-self-2-clause-waits g c =
+    let held = c.args.self.now in
+    subst (λ (l : List Page). HoldsWaiting l held.durable held.pool) (sym c.reset.ensures.images) held.waits
 
 pub returns-clause-steps : goal.returns-clause-steps
 returns-clause-steps g c =

@@ -1,9 +1,12 @@
-use Rattle.std.proofs.Common.{rules, ◌≡◌, ◌∙◌, ◌+◌, ◌<◌, [], inl, inr, refl, ap, subst, sym, arith}
+use Rattle.std.proofs.Common.{rules, List, ◌≡◌, ◌∙◌, ◌+◌, ◌<◌, [], inl, inr, refl, ap, subst, sym, arith}
 use Rattle.page_store.proofs.Logging.{none_waits}
 use Rattle.page_store.proofs.Misfits.{misfit, promise_left}
 use Rattle.page_store.proofs.Acting.{failures_rise, stop_fails}
 use Rattle.page_store.proofs.ForceFollows.{follows_failed_force, follows_force}
 use Rattle.page_store.proofs.Imports.{is_err, Format, WaitsOn, end_with, waiting_blocks, held_of, backing_of, LoggedPages, Follows, follows_same, ChangesOnly, goes_now, same_only}
+use Rattle.page_store.proofs.Holding.{waits_changed, waits_nothing}
+use Rattle.page_store.specs.Writing.{HoldsWaiting}
+use Rattle.page_codec.specs.declared.page.Page.{Page}
 use Rattle.page_store.proofs.Keeping.{holds_logged}
 use Rattle.page_store.proofs.logged_pages.LoggedPages.force.Given.{Over}
 use Rattle.page_store.proofs.logged_pages.LoggedPages.force.Goals.{After-force, then-self+in_ok-force, else-self}
@@ -28,6 +31,7 @@ invariant_of-self g c =
       reach = held.reach;
       holds = holds_logged held.limits _ held.acts held.pool _ (g.D.Device.trace held.device).now (g.D.Device.trace c.force.new.device).now held.holds
           _ c.force.ensures.honest (only g (goal.at.invariant_of-self g c).After-force);
+      waits = subst (λ (l : List Page). HoldsWaiting l held.durable held.pool) (sym c.in_err-force.ensures.images) held.waits;
       counted = search rules;
       not_ahead = held.not_ahead;
       forced = search rules;
@@ -43,9 +47,15 @@ invariant_of-self-then-self-clause-holds g c =
     holds_logged held.limits _ held.acts held.pool _ (g.D.Device.trace held.device).now (g.D.Device.trace c.force.new.device).now held.holds _
     c.force.ensures.honest (only g (goal.at.invariant_of-self-then-self-clause-holds g c).After-force)
 
+pub force-requires-clause-held : goal.force-requires-clause-held
+force-requires-clause-held g c = waits_changed _ c.args.self.now.durable c.args.self.now.pool c.args.self.now.waits
+
+pub invariant_of-self-then-self-clause-waits : goal.invariant_of-self-then-self-clause-waits
+invariant_of-self-then-self-clause-waits g c = waits_nothing _ _ _ c.in_ok-force.ensures.none
+
 pub returns-in_err-force-clause-steps : goal.returns-in_err-force-clause-steps
 returns-in_err-force-clause-steps g c =
-    follows_failed_force (held_of g.D.Device c.args.self.now) c.force.new.self (g.D.Device.trace c.force.new.device) (g.D.Device.is_honest c.force.new.device) (g.D.Device.failures c.force.new.device)
+    follows_failed_force (held_of g.D.Device c.args.self.now) c.force.new.log (g.D.Device.trace c.force.new.device) (g.D.Device.is_honest c.force.new.device) (g.D.Device.failures c.force.new.device)
     c.force.ensures.same.limits (sym c.is_stopped.ensures ∙ c.if-is_stopped.false) c.force.ensures.moments c.force.ensures.outside c.force.ensures.len c.force.ensures.honest
     (failures_rise c.force.result _ _ _ c.force.ensures.cause) (c.force.ensures.stopped ∙ ap is_err c.in_err-force.was)
     (stop_fails c.force.result _ _ _ c.force.ensures.cause (sym c.is_stopped.ensures ∙ c.if-is_stopped.false) (ap is_err c.in_err-force.was))
@@ -57,9 +67,9 @@ pub invariant_of-self-then-self-clause-kept_promise : goal.invariant_of-self-the
 invariant_of-self-then-self-clause-kept_promise g c =
     let held = c.args.self.now in
     let left = c.room.result in
-    let most = promise_left held.log c.force.new.self held.limits.log_bytes held.room left (held.fits (sym c.is_stopped.ensures ∙ c.if-is_stopped.false)) (c.in_ok-force.ensures.room (left + 1))
-    (subst (λ (l : Format). l.log_bytes < end_with c.force.new.self (left + 1)) (c.force.ensures.same.limits ∙ held.log_limits)
-    (misfit c.force.new.self (left + 1) (c.room.ensures.no_more (left + 1) (omega arith)))) in
+    let most = promise_left held.log c.force.new.log held.limits.log_bytes held.room left (held.fits (sym c.is_stopped.ensures ∙ c.if-is_stopped.false)) (c.in_ok-force.ensures.room (left + 1))
+    (subst (λ (l : Format). l.log_bytes < end_with c.force.new.log (left + 1)) (c.force.ensures.same.limits ∙ held.log_limits)
+    (misfit c.force.new.log (left + 1) (c.room.ensures.no_more (left + 1) (omega arith)))) in
     omega (arith, most, held.new_promise c.if-self.true, c.min-self.ensures)
 
 pub returns-clause-steps : goal.returns-clause-steps
@@ -67,7 +77,7 @@ returns-clause-steps g c =
     let start = held_of g.D.Device c.args.self.now in
     elim c.if-self.branch [
       | then-self+in_ok-force w ↦ subst (λ s. Follows start (held_of g.D.Device s)) (sym w.self-is)
-          (follows_force start w.force.new.self (g.D.Device.trace w.force.new.device) (g.D.Device.is_honest w.force.new.device) (g.D.Device.failures w.force.new.device)
+          (follows_force start w.force.new.log (g.D.Device.trace w.force.new.device) (g.D.Device.is_honest w.force.new.device) (g.D.Device.failures w.force.new.device)
           w.force.ensures.same.limits (sym c.is_stopped.ensures ∙ c.if-is_stopped.false) w.force.ensures.moments w.force.ensures.outside w.force.ensures.len w.force.ensures.honest
           (failures_rise w.force.result _ _ _ w.force.ensures.cause) w.in_ok-force.ensures.keeps c.args.self.now.not_ahead w.min-self.result (w.force.ensures.stopped ∙ ap is_err w.in_ok-force.was))
       | else-self w ↦ subst (λ s. Follows start (held_of g.D.Device s)) (sym w.self-is) (follows_same start)

@@ -1,6 +1,8 @@
 use Rattle.std.proofs.Common.{◌<◌, ◌≤◌, ◌∙◌, ℕ, List, length, refl, subst, sym, ap, arith}
 use Rattle.page_store.proofs.Imports.{end_with, waiting_count, Format, Page, AreStored, place, HoldsPages}
 use Rattle.page_store.proofs.Opened.{is_own, room_is}
+use Rattle.redo_log.proofs.Standing.{waits_none}
+use Rattle.page_store.proofs.Holding.{waits_nothing}
 use Rattle.page_store.proofs.Keeping.{holds_opened, none_changed, pages_opened}
 use Rattle.page_store.proofs.logged_pages.LoggedPages.new.Goals as goal
 
@@ -22,6 +24,9 @@ pub invariant_of-result-clause-holds : goal.invariant_of-result-clause-holds
 invariant_of-result-clause-holds g c =
     subst (λ (ps : List Page). HoldsPages c.args.limits ps 0 c.args.pool (g.D.Device.is_honest c.args.device) (g.D.Device.trace c.args.device).now) (sym (pages_opened c.args.history c.requires.begun))
     (holds_opened c.args.limits c.args.history.start c.args.pool (g.D.Device.is_honest c.args.device) (g.D.Device.trace c.args.device).now c.law.ensures c.requires.empty c.requires.seen)
+
+pub invariant_of-result-clause-waits : goal.invariant_of-result-clause-waits
+invariant_of-result-clause-waits g c = waits_nothing _ 0 c.args.pool (waits_none c.args.log c.requires.idle)
 
 pub invariant_of-result-clause-fits : goal.invariant_of-result-clause-fits
 invariant_of-result-clause-fits g c =

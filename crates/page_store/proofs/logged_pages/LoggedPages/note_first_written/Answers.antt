@@ -1,4 +1,6 @@
 use Rattle.page_store.proofs.Imports.{pages_now, held_of}
+use Rattle.std.proofs.Common.{arith}
+use Rattle.page_store.proofs.Holding.{waits_durable}
 use Rattle.page_store.proofs.Keeping.{holds_noted, first_noted, all_clean}
 use Rattle.page_store.proofs.WriteFollows.{follows_noted}
 use Rattle.page_store.proofs.logged_pages.LoggedPages.note_first_written.Goals as goal
@@ -11,6 +13,11 @@ invariant_of-self-clause-holds g c =
     let honest = g.D.Device.is_honest held.device in
     holds_noted held.limits pages held.acts held.pool c.note_first_written.new.self honest m held.holds c.note_first_written.ensures.pages
     (first_noted held.limits pages held.acts held.pool honest m held.holds c.law.ensures c.note_first_written.new.self c.args.count c.requires.home c.note_first_written.ensures)
+
+pub invariant_of-self-clause-waits : goal.invariant_of-self-clause-waits
+invariant_of-self-clause-waits g c =
+    let held = c.args.self.now in
+    waits_durable _ held.durable held.pool c.note_first_written.new.self held.waits (λ block. omega (arith, held.holds.few block, c.requires.durable))
 
 pub returns-clause-steps : goal.returns-clause-steps
 returns-clause-steps g c =

@@ -1,9 +1,13 @@
 use Rattle.std.proofs.Common.{◌∙◌, arith}
 use Rattle.redo_log.proofs.Forcing.{all_forced, then_moments, then_outside, ends_alike, ends_below}
+use Rattle.redo_log.proofs.Standing.{waits_none}
 use Rattle.redo_log.proofs.log.Log.force.Goals as goal
 
 pub returns-then-count-eq0-clause-keeps : goal.returns-then-count-eq0-clause-keeps
 returns-then-count-eq0-clause-keeps g c = λ acts forced k. all_forced c.args.self.now _ acts forced k (omega arith)
+
+pub returns-then-count-eq0-clause-none : goal.returns-then-count-eq0-clause-none
+returns-then-count-eq0-clause-none g c = waits_none c.args.self.now (omega arith)
 
 pub returns-in_err-open_gate-clause-moments : goal.returns-in_err-open_gate-clause-moments
 returns-in_err-open_gate-clause-moments g c =

@@ -1,7 +1,6 @@
 use Rattle.std.proofs.Common.{◌≡◌, ◌+◌, ◌*◌, ◌++◌, [], ◌∷◌, List, ℕ, length, take, drop, refl, sym, ◌∙◌, ap, arith, length-take-le}
 use Rattle.redo_log.proofs.Imports.{Page, body, LogHolds, waiting_count}
-use Rattle.redo_log.proofs.Forcing.{sealed_piece, body_goes, body_keeps, body_outside}
-use Rattle.redo_log.proofs.Laying.{laid_still}
+use Rattle.redo_log.proofs.Forcing.{laid_all, sealed_piece, body_goes, body_keeps, body_outside}
 use Rattle.redo_log.proofs.log.Log.write_body.Given.{Over}
 use Rattle.redo_log.proofs.log.Log.write_body.Goals.{After-write_at}
 use Rattle.redo_log.proofs.log.Log.write_body.Goals as goal
@@ -12,7 +11,7 @@ module _ (g : Over) (c : After-write_at g) where
   piece acts forced k =
       let s = c.args.self.now in
       sealed_piece s.buffer _ _ _ c.count-count.result k.waiting c.deref_mut.ensures.value (c.seal.auto.buffer ∙ c.deref_mut.ensures.len) c.deref.ensures.value c.seal.ensures.sealed
-      (k.waits.counted ∙ sym c.count-count.ensures) (ap (λ (n : ℕ). take (4096 * n) (drop 4 s.buffer.items)) c.count-count.ensures ∙ k.waits.buffered)
+      (k.waits.counted ∙ sym c.count-count.ensures) (ap (λ (n : ℕ). take (4096 * n) (drop 4 s.buffer.items)) c.count-count.ensures ∙ laid_all s k.waiting c.requires.laid k.waits)
 
   long : length (take (5 + 4096 * c.count-count.result) c.deref.result.now) ≡ 5 + 4096 * waiting_count c.args.self.now
   long =
@@ -32,8 +31,7 @@ returns-clause-keeps g c = λ acts forced k.
     let at = (goal.at.returns-clause-keeps g c).After-write_at in
     body_keeps c.args.self.now acts forced _ k c.requires.shut _ _ _
     (omega (arith, long g at, c.args.self.now.fits c.requires.some, c.requires.range)) (piece g at acts forced k) c.in_ok-write_at.ensures.trace refl refl refl c.requires.shut
-    (laid_still c.args.self.now.limits _ c.args.self.now.buffer _ k.waiting c.deref_mut.ensures.value (c.seal.auto.buffer ∙ c.deref_mut.ensures.len)
-    (ap (λ (n : ℕ). take (4096 * n) (drop 4 c.seal.new.buffer)) (sym c.count-count.ensures) ∙ c.seal.ensures.images ∙ ap (λ (n : ℕ). take (4096 * n) (drop 4 c.deref_mut.result.now)) c.count-count.ensures) k.waits)
+    k.waits
 
 pub returns-clause-moments : goal.returns-clause-moments
 returns-clause-moments g c = λ acts forced k. body_goes c.args.self.now acts forced _ k c.requires.shut _ c.write_at.result _
