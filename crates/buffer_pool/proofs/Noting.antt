@@ -166,8 +166,8 @@ take_drop_apart blocks n block apart first =
     apart a.0 (n + b.0) block (omega (arith, short)) less (one ∙ sym two))
 
 -- a block that isn't among the first `n` is among all exactly if it is after them
-pub behind_is : (blocks : List ℕ) (n block : ℕ) → has_block (take n blocks) block ≡ false → has_block (drop n blocks) block ≡ has_block blocks block
-behind_is blocks n block off =
+pub later_has : (blocks : List ℕ) (n block : ℕ) → has_block (take n blocks) block ≡ false → has_block (drop n blocks) block ≡ has_block blocks block
+later_has blocks n block off =
     sym (ap (λ (xs : List ℕ). has_block xs block) (sym (take-append-drop n blocks))
     ∙ (list_any-append (λ b. eqb b block) (take n blocks) (drop n blocks) ∙ ap (λ (t : Bool). t || has_block (drop n blocks) block) off))
 
@@ -200,7 +200,7 @@ many_written old new count most pages places changed kept =
         | inr p ↦
             act_at blocks new.acts.items b p.0 p.1
             ∙ (either_act (get_or new.acts.items p.0 0) (get_or old.acts.items p.0 0) (kept p.0)
-            (ap (ltb 0) (sym (act_at blocks new.acts.items b p.0 p.1)) ∙ (sym (told b) ∙ (behind_is (waiting_in old.changed) count b off
+            (ap (ltb 0) (sym (act_at blocks new.acts.items b p.0 p.1)) ∙ (sym (told b) ∙ (later_has (waiting_in old.changed) count b off
             ∙ (old.ordered.told b ∙ ap (ltb 0) (act_at blocks old.acts.items b p.0 p.1)))))
             ∙ sym (act_at blocks old.acts.items b p.0 p.1))
       ];

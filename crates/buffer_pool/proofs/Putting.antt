@@ -79,7 +79,7 @@ pub put_from : (old new : Pool) (at : ℕ) (page : Page)
     → (at ≡ length old.pages.items → blocks_in new.pages.items ≡ blocks_in old.pages.items ++ page.block ∷ [])
     → HasSameChanges old new → IsPut old new at page
 unfolding most_of reach_of pool_count pool_blocks page_at
-put_from old new at page most reach count there pages came left stayed absent taken over behind changes =
+put_from old new at page most reach count there pages came left stayed absent taken over added changes =
     let elsewhere = λ (block : ℕ) (other : block ≢ page.block) (not : frame_of old block ≢ Some at).
     same_frame old new block (stayed block other (λ is. not (frame_from old block at is))) in
     let others = λ (block : ℕ) (other : block ≢ page.block) (not : frame_of old block ≢ Some at).
@@ -90,7 +90,7 @@ put_from old new at page most reach count there pages came left stayed absent ta
       reach = reach;
       count = count;
       over = over;
-      behind = behind;
+      added = added;
       frame = frame_from new page.block at came;
       there = there;
       held = held_at new page.block at (frame_from new page.block at came) ∙ there;

@@ -109,11 +109,11 @@ module _ (keys : List ℕ) (first count place : ℕ) (within : first + count ≤
         get_or-remove_below keys (first + place) 0 (first + k) (omega (arith, before)) (omega (arith, within, less))
         ∙ (sym (window_at keys first count within k (omega (arith, few)))
         ∙ sym (get_or-remove_below (window keys first count) place 0 k before (omega (arith, less, window_long keys first count within))))
-    | inr behind ↦
-        get_or-remove_above keys (first + place) 0 (first + k) (omega (arith, behind)) (omega (arith, within, less))
+    | inr later ↦
+        get_or-remove_above keys (first + place) 0 (first + k) (omega (arith, later)) (omega (arith, within, less))
         ∙ (ap (λ (n : ℕ). get_or keys n 0) (omega arith)
         ∙ (sym (window_at keys first count within (k + 1) (omega (arith, few)))
-        ∙ sym (get_or-remove_above (window keys first count) place 0 k behind (omega (arith, less, window_long keys first count within)))))
+        ∙ sym (get_or-remove_above (window keys first count) place 0 k later (omega (arith, less, window_long keys first count within)))))
   ]
 
   pub removed : (after : List ℕ) → after ≡ move_index keys (first + place) first → window after (first + 1) (count - 1) ≡ remove (window keys first count) place

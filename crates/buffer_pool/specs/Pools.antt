@@ -71,7 +71,7 @@ pub record IsPut (old new : Pool) (at : ℕ) (page : Page) : Type 0 where
   pub reach : reach_of new ≡ reach_of old
   pub count : pool_count new ≡ max (pool_count old) (suc at)
   pub over : at < pool_count old → pool_blocks new ≡ slice_set (pool_blocks old) at page.block
-  pub behind : at ≡ pool_count old → pool_blocks new ≡ pool_blocks old ++ page.block ∷ []
+  pub added : at ≡ pool_count old → pool_blocks new ≡ pool_blocks old ++ page.block ∷ []
   pub frame : frame_of new page.block ≡ Some at
   pub there : page_at new at ≡ Some page
   pub held : held_page new page.block ≡ Some page

@@ -4,10 +4,10 @@ use Rattle.page_store.proofs.Imports.{Bool, Result, Ok, Err, is_err, Fault, Stop
 use Rattle.redo_log.specs.Groups.{AreImages}
 
 -- the pages of an act are images
-pub are_images : (limits : Format) (used : ℕ) (changed : List Page) → AreActable limits used changed → AreImages limits changed
-are_images limits used [] h = tt
-are_images limits used (page ∷ changed) h =
-    (record { page = h.0.storable.admitted; within = record { block = h.1.1; items = h.0.storable.few; layout = h.0.storable.layout } }, are_images limits used changed h.3)
+pub are_images : (format : Format) (used : ℕ) (changed : List Page) → AreActable format used changed → AreImages format changed
+are_images format used [] h = tt
+are_images format used (page ∷ changed) h =
+    (record { page = h.0.storable.admitted; within = record { block = h.1.1; items = h.0.storable.few; layout = h.0.storable.layout } }, are_images format used changed h.3)
 
 -- failures don't go back
 pub failures_rise : {T : Type 0} (r : Result T Fault) (stopped : Bool) (old new : ℕ) → IoOrStopped r stopped old new → old ≤ new

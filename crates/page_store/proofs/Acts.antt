@@ -61,13 +61,13 @@ acted_next old mid new pages k page act at a c =
     subst (λ (xs : List Page). AreActed old new xs act) (sym (take_next pages k page at)) (acted_more old mid new (take k pages) page act a c)
 
 -- the pages are as many as the next unused block is
-pub length_acted : (limits : Format) (used : ℕ) (pages changed : List Page) → AreActable limits used changed → used ≤ length pages
+pub length_acted : (format : Format) (used : ℕ) (pages changed : List Page) → AreActable format used changed → used ≤ length pages
     → length (with_pages pages changed) ≡ used_after (length pages) changed
-length_acted limits used pages [] may more = refl
-length_acted limits used pages (page ∷ changed) may more =
+length_acted format used pages [] may more = refl
+length_acted format used pages (page ∷ changed) may more =
     let place : page.block ≤ length pages = omega (arith, may.1.0) in
     let long = length-with_page pages page place in
-    length_acted limits used (with_page pages page) changed may.3 (omega (arith, long)) ∙ ap (λ (n : ℕ). used_after n changed) long
+    length_acted format used (with_page pages page) changed may.3 (omega (arith, long)) ∙ ap (λ (n : ℕ). used_after n changed) long
 
 -- the pages after one act more
 pub pages_acted : (h : History) (changed : List Page) → pages_now (with_act changed h) ≡ with_pages (pages_now h) changed

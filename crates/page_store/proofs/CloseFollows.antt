@@ -3,7 +3,7 @@ use Rattle.std.proofs.Common.{◌≡◌, ⊎_elim, ℕ, ◌+◌, ◌<◌, ◌≤
 use Rattle.page_codec.specs.Spelling.{page_bytes}
 use Rattle.page_codec.specs.Places.{superblock, place}
 use Rattle.page_store.proofs.Imports.{append-nil, slice_get_past, DiskMoment, Trace, AtEachMoment, Has, OnDisk, ChangesOnly, goes_weaker, goes_both, goes_now, same_only, Format, Page, AreStored}
-use Rattle.page_store.proofs.Imports.{last_image, later_of, images_of, LogHolds, RestartsOrEmpty, RestartsOrEmptyThroughout, ChangesItsRange, limits_of, is_stopped, Log, after_acts, pages_after}
+use Rattle.page_store.proofs.Imports.{last_image, later_of, images_of, LogHolds, RestartsOrEmpty, RestartsOrEmptyThroughout, ChangesItsRange, format_of, is_stopped, Log, after_acts, pages_after}
 use Rattle.page_store.proofs.Imports.{pages_now, AreActs, RestartsToPart, CrashesToPart, Held, pages_held, is_named, AreHome, IsKept, IsOwn, Follows, History}
 use Rattle.page_store.proofs.Images.{get-after_acts, acts-drop, later_is_none, after_both, image_cases}
 use Rattle.page_store.proofs.Restarting.{home_kept, superblock_kept, part_restarts, home_restarts, past_of_none}
@@ -28,7 +28,7 @@ after_split pages acts n le =
 
 module _ (old : Held) (own : IsOwn old) (alive : is_stopped old.log ≡ false) (all : old.durable ≡ old.acts) where
   abbrev l : Format
-  l = limits_of old.log
+  l = format_of old.log
 
   abbrev h : History
   h = old.history
@@ -80,9 +80,9 @@ module _ (old : Held) (own : IsOwn old) (alive : is_stopped old.log ≡ false) (
       (home_restarts l h own.start_stored own.start_few own.acts_are (pages_now h) m image refl left superblock_on (home_kept l [] (pages_now h) old.trace.now m both.1 home) long holds))
       (both.0 image left)
 
-  kept_closed : (log : Log) (m : DiskMoment) → limits_of log ≡ l → ChangesOnly 4096 l.log_bytes old.trace.now m → AreHome l [] (pages_now h) old.trace.now → LogHolds log m [] 0
+  kept_closed : (log : Log) (m : DiskMoment) → format_of log ≡ l → ChangesOnly 4096 l.log_bytes old.trace.now m → AreHome l [] (pages_now h) old.trace.now → LogHolds log m [] 0
       → ((block : ℕ) → old.unwritten block ≡ 0) → IsKept log m old.unwritten h old.durable
-  kept_closed log m limits only home keeps clean =
+  kept_closed log m format only home keeps clean =
       let none = nothing_left h.acts in
       let same : pages_now h ≡ pages_after h (length h.acts) = ap (λ (as' : List (List Page)). after_acts h.start as') (sym (whole_to h.acts (length h.acts) refl)) in
       record {
@@ -91,9 +91,9 @@ module _ (old : Held) (own : IsOwn old) (alive : is_stopped old.log ≡ false) (
         base_few = omega arith;
         durable_is = omega (arith, all, own.counted);
         log_keeps = subst (λ (as' : List (List Page)). LogHolds log m as' 0) (sym none) keeps;
-        home = subst (λ (x : Format). AreHome x [] (pages_after h (length h.acts)) m) (sym limits)
+        home = subst (λ (x : Format). AreHome x [] (pages_after h (length h.acts)) m) (sym format)
             (subst (λ (ps : List Page). AreHome l [] ps m) same (home_kept l [] (pages_now h) old.trace.now m only home));
-        superblock_on = subst (λ (x : Format). OnDisk 0 (superblock x) m) (sym limits) (superblock_kept l 4096 l.log_bytes old.trace.now m (omega arith) only k.superblock_on);
+        superblock_on = subst (λ (x : Format). OnDisk 0 (superblock x) m) (sym format) (superblock_kept l 4096 l.log_bytes old.trace.now m (omega arith) only k.superblock_on);
         named = λ block some. absurd (omega (arith, clean block));
         last = λ block some. absurd (omega (arith, clean block));
         written = λ block page found is image. (let never : is_named [] block ≡ true = subst (λ (as' : List (List Page)). is_named as' block ≡ true) none image in absurd cc);
@@ -103,10 +103,10 @@ module _ (old : Held) (own : IsOwn old) (alive : is_stopped old.log ≡ false) (
 pub record IsClosing (old : Held) (log : Log) (trace : Trace) (honest : Bool) (failures : ℕ) : Type 0 where
   pub alive : is_stopped old.log ≡ false
   pub all : old.durable ≡ old.acts
-  pub limits : limits_of log ≡ limits_of old.log
-  pub home : IsOwn old → AreHome (limits_of old.log) [] (pages_held old) old.trace.now
+  pub format : format_of log ≡ format_of old.log
+  pub home : IsOwn old → AreHome (format_of old.log) [] (pages_held old) old.trace.now
   pub moments : RestartsOrEmptyThroughout old.log old.trace trace
-  pub outside : ChangesItsRange (limits_of old.log) old.trace trace
+  pub outside : ChangesItsRange (format_of old.log) old.trace trace
   pub same : honest ≡ old.honest
   pub more : old.failures ≤ failures
   pub failed : is_stopped log ≡ true → old.failures < failures
@@ -117,22 +117,22 @@ module _ (old : Held) (log : Log) (trace : Trace) (honest : Bool) (failures : �
   abbrev closed : Held
   closed = record old { log = log; trace = trace; honest = honest; failures = failures; room = room; promised = promised }
 
-  only_now : ChangesOnly 4096 (limits_of old.log).log_bytes old.trace.now trace.now
-  only_now = goes_now _ old.trace trace r.outside (same_only 4096 (limits_of old.log).log_bytes old.trace.now)
+  only_now : ChangesOnly 4096 (format_of old.log).log_bytes old.trace.now trace.now
+  only_now = goes_now _ old.trace trace r.outside (same_only 4096 (format_of old.log).log_bytes old.trace.now)
 
-  leaves_between : (own : IsOwn old) → AtEachMoment (CrashesToPart (limits_of old.log) old.history old.durable) old.trace trace
+  leaves_between : (own : IsOwn old) → AtEachMoment (CrashesToPart (format_of old.log) old.history old.durable) old.trace trace
   leaves_between own = goes_weaker _ _ old.trace trace (λ m both. leaves_closing old own r.alive r.all m (r.home own) both)
       (goes_both _ _ old.trace trace (r.moments (drop (own.kept r.alive).base old.history.acts) (own.kept r.alive).forced (own.kept r.alive).log_keeps) r.outside)
 
   own_closed : IsOwn old → IsOwn closed
   own_closed own = record {
-    start_stored = subst (λ (x : Format). AreStored x 0 old.history.start) (sym r.limits) own.start_stored;
-    start_few = subst (λ (x : Format). length old.history.start ≤ x.pages) (sym r.limits) own.start_few;
-    long = subst (λ (x : Format). place x x.pages ≤ length trace.now.seen) (sym r.limits) (long_at old own r.alive r.all trace.now only_now.same_length);
-    acts_are = subst (λ (x : Format). AreActs x old.history.start old.history.acts) (sym r.limits) own.acts_are;
+    start_stored = subst (λ (x : Format). AreStored x 0 old.history.start) (sym r.format) own.start_stored;
+    start_few = subst (λ (x : Format). length old.history.start ≤ x.pages) (sym r.format) own.start_few;
+    long = subst (λ (x : Format). place x x.pages ≤ length trace.now.seen) (sym r.format) (long_at old own r.alive r.all trace.now only_now.same_length);
+    acts_are = subst (λ (x : Format). AreActs x old.history.start old.history.acts) (sym r.format) own.acts_are;
     counted = own.counted;
-    leaves = subst (λ (x : Format). CrashesToPart x old.history old.durable trace.now) (sym r.limits) (goes_now _ old.trace trace (leaves_between own) own.leaves);
-    kept = λ still. kept_closed old own r.alive r.all log trace.now r.limits only_now (r.home own)
+    leaves = subst (λ (x : Format). CrashesToPart x old.history old.durable trace.now) (sym r.format) (goes_now _ old.trace trace (leaves_between own) own.leaves);
+    kept = λ still. kept_closed old own r.alive r.all log trace.now r.format only_now (r.home own)
         (keeps still (drop (own.kept r.alive).base old.history.acts) (own.kept r.alive).forced (own.kept r.alive).log_keeps) (clean still);
   }
 
@@ -147,7 +147,7 @@ module _ (old : Held) (log : Log) (trace : Trace) (honest : Bool) (failures : �
     };
     grows = λ own. record {
       own = own_closed own;
-      limits = r.limits;
+      format = r.format;
       start = refl;
       more = [];
       acts = sym (append-nil old.history.acts);

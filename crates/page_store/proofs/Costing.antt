@@ -90,7 +90,7 @@ module _ {D : Type 0} (g : Ghosts D) where
     clean = over.clean;
     front = over.front;
     block = over.block;
-    behind = over.behind;
+    later = over.later;
     was = over.was;
     passed = over.passed;
     unpinned = over.unpinned;
@@ -141,7 +141,7 @@ module _ {D : Type 0} (g : Ghosts D) where
           clean = clean;
           front = front;
           block = block;
-          behind = drop (suc place) (changed_of chosen.pool);
+          later = drop (suc place) (changed_of chosen.pool);
           was = sym changes.order ∙ split;
           passed = passed front _ split (omega (arith, length-take place (changed_of chosen.pool), slice_get_within (changed_of chosen.pool) place block oldest.at));
           unpinned = oldest.unpinned;
@@ -157,16 +157,16 @@ module _ {D : Type 0} (g : Ghosts D) where
     over_written mid order most acts ahead durable =
         let was : changed_of chosen.pool ≡ ahead.front ++ block ∷ (ahead.more ++ ahead.rest) =
         put_back (changed_of chosen.pool) ahead.front (ahead.more ++ ahead.rest) block
-        (subst (λ (k : ℕ). slice_get (changed_of chosen.pool) k ≡ Some block) (sym ahead.behind) oldest.at)
-        (subst (λ (k : ℕ). remove (changed_of chosen.pool) k ≡ ahead.front ++ (ahead.more ++ ahead.rest)) (sym ahead.behind) (sym order ∙ ahead.was)) in
+        (subst (λ (k : ℕ). slice_get (changed_of chosen.pool) k ≡ Some block) (sym ahead.passed) oldest.at)
+        (subst (λ (k : ℕ). remove (changed_of chosen.pool) k ≡ ahead.front ++ (ahead.more ++ ahead.rest)) (sym ahead.passed) (sym order ∙ ahead.was)) in
         inr (record {
           full = full;
           clean = clean;
           front = ahead.front;
           block = block;
-          behind = ahead.more ++ ahead.rest;
+          later = ahead.more ++ ahead.rest;
           was = sym changes.order ∙ was;
-          passed = passed ahead.front (block ∷ (ahead.more ++ ahead.rest)) was ahead.behind;
+          passed = passed ahead.front (block ∷ (ahead.more ++ ahead.rest)) was ahead.passed;
           unpinned = oldest.unpinned;
           forced = early;
           left = inr (record {
@@ -232,7 +232,7 @@ module _ {D : Type 0} (g : Ghosts D) where
     takes_unused : pool_count old.pool < most_of old.pool → TakesUnused (most_of old.pool) page.block (memory_in old.pool) (memory_in new.pool)
     takes_unused some = record {
       unused = omega (arith, some, law.count);
-      held = put.behind (omega (arith, unused some, same.count)) ∙ ap (λ (l : List ℕ). l ++ page.block ∷ []) same.blocks;
+      held = put.added (omega (arith, unused some, same.count)) ∙ ap (λ (l : List ℕ). l ++ page.block ∷ []) same.blocks;
     }
 
     takes_over : most_of old.pool ≤ pool_count old.pool → TakesOver (most_of old.pool) pinned page.block (memory_in old.pool) (memory_in new.pool)

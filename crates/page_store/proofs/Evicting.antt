@@ -49,7 +49,7 @@ pub record AreWrittenInTurn (pinned : List ℕ) (durable place count : ℕ) (old
   pub front : List ℕ
   pub more : List ℕ
   pub rest : List ℕ
-  pub behind : length front ≡ place
+  pub passed : length front ≡ place
   pub was : changed_of old ≡ front ++ (more ++ rest)
   pub left : changed_of new ≡ front ++ rest
   pub many : length more ≡ count
@@ -62,7 +62,7 @@ goes_none pinned durable place pool within = record {
   front = take place (changed_of pool);
   more = [];
   rest = drop place (changed_of pool);
-  behind = omega (arith, length-take place (changed_of pool), within);
+  passed = omega (arith, length-take place (changed_of pool), within);
   was = sym (take-append-drop place (changed_of pool));
   left = sym (take-append-drop place (changed_of pool));
   many = refl;
@@ -75,16 +75,16 @@ module _ (pinned : List ℕ) (durable place count : ℕ) (old mid : Pool) (g : A
   pub goes_next : (new : Pool) → IsWrittenNext pinned durable place mid new → AreWrittenInTurn pinned durable place (count + 1) old new
   goes_next new n =
       let at : slice_get (g.front ++ g.rest) (length g.front) ≡ Some n.block =
-      subst (λ (k : ℕ). slice_get (g.front ++ g.rest) k ≡ Some n.block) (sym g.behind) (subst (λ (l : List ℕ). slice_get l place ≡ Some n.block) g.left n.at) in
+      subst (λ (k : ℕ). slice_get (g.front ++ g.rest) k ≡ Some n.block) (sym g.passed) (subst (λ (l : List ℕ). slice_get l place ≡ Some n.block) g.left n.at) in
       let next = next_of g.front g.rest n.block at in
       let order : changed_of mid ≡ g.front ++ n.block ∷ next.0 = g.left ∙ ap (λ (l : List ℕ). g.front ++ l) next.1 in
       let left : changed_of new ≡ g.front ++ next.0 =
-      n.written.order ∙ (ap (λ (l : List ℕ). remove l place) order ∙ (ap (remove (g.front ++ n.block ∷ next.0)) (sym g.behind) ∙ remove_next g.front next.0 n.block)) in
+      n.written.order ∙ (ap (λ (l : List ℕ). remove l place) order ∙ (ap (remove (g.front ++ n.block ∷ next.0)) (sym g.passed) ∙ remove_next g.front next.0 n.block)) in
       record {
         front = g.front;
         more = g.more ++ n.block ∷ [];
         rest = next.0;
-        behind = g.behind;
+        passed = g.passed;
         was = g.was ∙ (ap (λ (l : List ℕ). g.front ++ (g.more ++ l)) next.1 ∙ ap (λ (l : List ℕ). g.front ++ l) (sym (append_assoc g.more (n.block ∷ []) next.0)));
         left = left;
         many = omega (arith, length-append g.more (n.block ∷ []), g.many);
@@ -103,7 +103,7 @@ module _ (pinned : List ℕ) (durable place count : ℕ) (old mid : Pool) (g : A
     front = g.front;
     more = g.more;
     rest = g.rest;
-    behind = g.behind;
+    passed = g.passed;
     was = g.was;
     left = g.left;
     few = omega (arith, g.many, few);

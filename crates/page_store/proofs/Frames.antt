@@ -29,13 +29,13 @@ too_many pool pinned block many none among =
     subst (λ (n : ℕ). most_of pool < n) same (many block none)
 
 -- a page of an act may be stored at its block, which is below the limit
-pub actable_at : (limits : Format) (used : ℕ) (changed : List Page) (k : ℕ) (page : Page) → AreActable limits used changed
-    → slice_get changed k ≡ Some page → IsStored limits page.block page × (page.block < limits.pages)
-actable_at limits used [] k page may at = absurd cc
-actable_at limits used (p ∷ changed) zero page may at =
+pub actable_at : (format : Format) (used : ℕ) (changed : List Page) (k : ℕ) (page : Page) → AreActable format used changed
+    → slice_get changed k ≡ Some page → IsStored format page.block page × (page.block < format.pages)
+actable_at format used [] k page may at = absurd cc
+actable_at format used (p ∷ changed) zero page may at =
     let e : p ≡ page = cc in
-    subst (λ (x : Page). IsStored limits x.block x × (x.block < limits.pages)) e (stored_at limits p.block p may.0.storable refl, may.1.1)
-actable_at limits used (p ∷ changed) (suc k) page may at = actable_at limits used changed k page may.3 at
+    subst (λ (x : Page). IsStored format x.block x × (x.block < format.pages)) e (stored_at format p.block p may.0.storable refl, may.1.1)
+actable_at format used (p ∷ changed) (suc k) page may at = actable_at format used changed k page may.3 at
 
 pub all_at : {A : Type 0} (P : A → Type 0) (xs : List A) (k : ℕ) (x : A) → All P xs → slice_get xs k ≡ Some x → P x
 all_at P xs k x all at = subst P (get_or_from_slice_get xs k x x at) (all k x (slice_get_within xs k x at))

@@ -5,7 +5,7 @@ use Rattle.page_codec.specs.Spelling.{page_bytes}
 use Rattle.redo_log.specs.Blocks.{with_images}
 use Rattle.redo_log.proofs.Standing.{waits_once, waits_many, block_at, last_at, last_with}
 use Rattle.redo_log.proofs.Keeping.{keeps_laid}
-use Rattle.redo_log.specs.Kept.{ChangesItsRange, Restarts, RestartsThroughout, SameLog, WaitsAlike, end_with, limits_of, waiting_images}
+use Rattle.redo_log.specs.Kept.{ChangesItsRange, Restarts, RestartsThroughout, SameLog, WaitsAlike, end_with, format_of, waiting_images}
 use Rattle.buffer_pool.specs.Pools.{act_of, held_page}
 use Rattle.page_store.specs.Writing.{HoldsWaiting}
 use Rattle.page_store.proofs.Imports.{AreActed, AtEachMoment, Format, HasSamePages, Log, Page, Trace, Pool, last_image, later_of, slice_get_cases, waiting_blocks, waiting_count}
@@ -88,10 +88,10 @@ module _ (old mid : Log) (w : WaitsAlike old mid) where
 
   pub laid_moments : (t u : Trace) → RestartsThroughout mid t u → RestartsThroughout old t u
   laid_moments t u moments acts forced k =
-      subst (λ (l : Format). AtEachMoment (Restarts l acts forced) t u) w.same.limits (moments acts forced (keeps_laid old mid w t.now acts forced k))
+      subst (λ (l : Format). AtEachMoment (Restarts l acts forced) t u) w.same.format (moments acts forced (keeps_laid old mid w t.now acts forced k))
 
-  pub laid_outside : (t u : Trace) → ChangesItsRange (limits_of mid) t u → ChangesItsRange (limits_of old) t u
-  laid_outside t u outside = subst (λ (l : Format). ChangesItsRange l t u) w.same.limits outside
+  pub laid_outside : (t u : Trace) → ChangesItsRange (format_of mid) t u → ChangesItsRange (format_of old) t u
+  laid_outside t u outside = subst (λ (l : Format). ChangesItsRange l t u) w.same.format outside
 
   pub laid_same : (new : Log) → SameLog mid new → SameLog old new
-  laid_same new s = record { limits = s.limits ∙ w.same.limits; actions = s.actions ∙ w.same.actions }
+  laid_same new s = record { format = s.format ∙ w.same.format; actions = s.actions ∙ w.same.actions }

@@ -67,12 +67,12 @@ get-with_page pages page b place = elim (cases_eq page.block b) [
   | inr ne ↦ rw (if_other b page ne) (is_other pages page b ne place)
 ]
 
-pub get-with_pages : (limits : Format) (used : ℕ) (pages changed : List Page) (b : ℕ) → AreActable limits used changed → used ≤ length pages
+pub get-with_pages : (format : Format) (used : ℕ) (pages changed : List Page) (b : ℕ) → AreActable format used changed → used ≤ length pages
     → slice_get (with_pages pages changed) b ≡ later_of (slice_get pages b) (last_image changed b)
-get-with_pages limits used pages [] b h few = refl
-get-with_pages limits used pages (page ∷ changed) b h few =
+get-with_pages format used pages [] b h few = refl
+get-with_pages format used pages (page ∷ changed) b h few =
     let place : page.block ≤ length pages = omega (arith, h.1.0) in
-    get-with_pages limits used (with_page pages page) changed b h.3 (omega (arith, with_page-longer limits pages page h.0.storable place))
+    get-with_pages format used (with_page pages page) changed b h.3 (omega (arith, with_page-longer format pages page h.0.storable place))
     ∙ (ap (λ (o : Option Page). later_of o (last_image changed b)) (get-with_page pages page b place)
     ∙ later_assoc (slice_get pages b) (if_of b page) (last_image changed b))
 
@@ -83,49 +83,49 @@ length-with_page pages page place = elim (cases_lt page.block (length pages)) [
 ]
 
 -- of each block the last image of the acts, or else the page that was there
-pub get-after_acts : (limits : Format) (pages : List Page) (acts : List (List Page)) (b : ℕ) → AreActs limits pages acts
+pub get-after_acts : (format : Format) (pages : List Page) (acts : List (List Page)) (b : ℕ) → AreActs format pages acts
     → slice_get (after_acts pages acts) b ≡ later_of (slice_get pages b) (last_image (images_of acts) b)
-get-after_acts limits pages [] b h = refl
-get-after_acts limits pages (changed ∷ acts) b h =
-    get-after_acts limits (with_pages pages changed) acts b h.1
-    ∙ (ap (λ (o : Option Page). later_of o (last_image (images_of acts) b)) (get-with_pages limits (length pages) pages changed b h.0 (omega arith))
+get-after_acts format pages [] b h = refl
+get-after_acts format pages (changed ∷ acts) b h =
+    get-after_acts format (with_pages pages changed) acts b h.1
+    ∙ (ap (λ (o : Option Page). later_of o (last_image (images_of acts) b)) (get-with_pages format (length pages) pages changed b h.0 (omega arith))
     ∙ (later_assoc (slice_get pages b) (last_image changed b) (last_image (images_of acts) b)
     ∙ ap (λ (o : Option Page). later_of (slice_get pages b) o) (sym (last_image-append changed (images_of acts) b))))
 
 -- and they are stored, and not too many
-pub stored-with_pages : (limits : Format) (used : ℕ) (pages changed : List Page) → AreActable limits used changed → used ≤ length pages → AreStored limits 0 pages → length pages ≤ limits.pages
-    → AreStored limits 0 (with_pages pages changed) × (length (with_pages pages changed) ≤ limits.pages)
-stored-with_pages limits used pages [] h more stored few = (stored, few)
-stored-with_pages limits used pages (page ∷ changed) h more stored few =
+pub stored-with_pages : (format : Format) (used : ℕ) (pages changed : List Page) → AreActable format used changed → used ≤ length pages → AreStored format 0 pages → length pages ≤ format.pages
+    → AreStored format 0 (with_pages pages changed) × (length (with_pages pages changed) ≤ format.pages)
+stored-with_pages format used pages [] h more stored few = (stored, few)
+stored-with_pages format used pages (page ∷ changed) h more stored few =
     let place : page.block ≤ length pages = omega (arith, h.1.0) in
-    stored-with_pages limits used (with_page pages page) changed h.3 (omega (arith, with_page-longer limits pages page h.0.storable place))
-    (stored-with_page limits pages page h.0.storable place stored) (with_page-few limits pages page h.0.storable place h.1.1 few)
+    stored-with_pages format used (with_page pages page) changed h.3 (omega (arith, with_page-longer format pages page h.0.storable place))
+    (stored-with_page format pages page h.0.storable place stored) (with_page-few format pages page h.0.storable place h.1.1 few)
 
-pub stored-after_acts : (limits : Format) (pages : List Page) (acts : List (List Page)) → AreActs limits pages acts → AreStored limits 0 pages → length pages ≤ limits.pages
-    → AreStored limits 0 (after_acts pages acts) × (length (after_acts pages acts) ≤ limits.pages)
-stored-after_acts limits pages [] h stored few = (stored, few)
-stored-after_acts limits pages (changed ∷ acts) h stored few =
-    let s = stored-with_pages limits (length pages) pages changed h.0 (omega arith) stored few in
-    stored-after_acts limits (with_pages pages changed) acts h.1 s.0 s.1
+pub stored-after_acts : (format : Format) (pages : List Page) (acts : List (List Page)) → AreActs format pages acts → AreStored format 0 pages → length pages ≤ format.pages
+    → AreStored format 0 (after_acts pages acts) × (length (after_acts pages acts) ≤ format.pages)
+stored-after_acts format pages [] h stored few = (stored, few)
+stored-after_acts format pages (changed ∷ acts) h stored few =
+    let s = stored-with_pages format (length pages) pages changed h.0 (omega arith) stored few in
+    stored-after_acts format (with_pages pages changed) acts h.1 s.0 s.1
 
 -- parts of acts
 pub after_acts-append : (pages : List Page) (xs ys : List (List Page)) → after_acts pages (xs ++ ys) ≡ after_acts (after_acts pages xs) ys
 after_acts-append pages [] ys = refl
 after_acts-append pages (x ∷ xs) ys = after_acts-append (with_pages pages x) xs ys
 
-pub acts-append : (limits : Format) (pages : List Page) (xs ys : List (List Page)) → AreActs limits pages xs → AreActs limits (after_acts pages xs) ys → AreActs limits pages (xs ++ ys)
-acts-append limits pages [] ys a b = b
-acts-append limits pages (x ∷ xs) ys a b = (a.0, acts-append limits (with_pages pages x) xs ys a.1 b)
+pub acts-append : (format : Format) (pages : List Page) (xs ys : List (List Page)) → AreActs format pages xs → AreActs format (after_acts pages xs) ys → AreActs format pages (xs ++ ys)
+acts-append format pages [] ys a b = b
+acts-append format pages (x ∷ xs) ys a b = (a.0, acts-append format (with_pages pages x) xs ys a.1 b)
 
-pub acts-take : (limits : Format) (pages : List Page) (acts : List (List Page)) (n : ℕ) → AreActs limits pages acts → AreActs limits pages (take n acts)
-acts-take limits pages acts zero h = tt
-acts-take limits pages [] (suc n) h = tt
-acts-take limits pages (x ∷ acts) (suc n) h = (h.0, acts-take limits (with_pages pages x) acts n h.1)
+pub acts-take : (format : Format) (pages : List Page) (acts : List (List Page)) (n : ℕ) → AreActs format pages acts → AreActs format pages (take n acts)
+acts-take format pages acts zero h = tt
+acts-take format pages [] (suc n) h = tt
+acts-take format pages (x ∷ acts) (suc n) h = (h.0, acts-take format (with_pages pages x) acts n h.1)
 
-pub acts-drop : (limits : Format) (pages : List Page) (acts : List (List Page)) (n : ℕ) → AreActs limits pages acts → AreActs limits (after_acts pages (take n acts)) (drop n acts)
-acts-drop limits pages acts zero h = h
-acts-drop limits pages [] (suc n) h = tt
-acts-drop limits pages (x ∷ acts) (suc n) h = acts-drop limits (with_pages pages x) acts n h.1
+pub acts-drop : (format : Format) (pages : List Page) (acts : List (List Page)) (n : ℕ) → AreActs format pages acts → AreActs format (after_acts pages (take n acts)) (drop n acts)
+acts-drop format pages acts zero h = h
+acts-drop format pages [] (suc n) h = tt
+acts-drop format pages (x ∷ acts) (suc n) h = acts-drop format (with_pages pages x) acts n h.1
 
 pub after_both : (pages : List Page) (acts : List (List Page)) (n k : ℕ) → after_acts pages (take (n + k) acts) ≡ after_acts (after_acts pages (take n acts)) (take k (drop n acts))
 after_both pages acts zero k = let e : zero + k ≡ k = omega arith in ap (λ (m : ℕ). after_acts pages (take m acts)) e

@@ -23,7 +23,7 @@ pub use Rattle.page_codec.specs.declared.page.Page.{Page}
 pub use Rattle.redo_log.proofs.ImageLists.{images_of-push, last_image-append}
 pub use Rattle.redo_log.proofs.Keeping.{forgets_all, keeps_elsewhere, keeps_restarts}
 pub use Rattle.redo_log.specs.Images.{if_of, images_of, last_image, later_of}
-pub use Rattle.redo_log.specs.Kept.{ChangesItsRange, Holds, HoldsFirst, ImagesFit, IoOrStopped, KeepsActions, LogHolds, Restarts, RestartsOrEmpty, RestartsOrEmptyThroughout, end_with, is_stopped, limits_of}
+pub use Rattle.redo_log.specs.Kept.{ChangesItsRange, Holds, HoldsFirst, ImagesFit, IoOrStopped, KeepsActions, LogHolds, Restarts, RestartsOrEmpty, RestartsOrEmptyThroughout, end_with, is_stopped, format_of}
 pub use Rattle.redo_log.specs.Kept.{waiting_blocks, waiting_count}
 pub use Rattle.redo_log.specs.declared.log.Log.{Log}
 pub use Rattle.latch_table.specs.Holdings.{has_pin, pinned_blocks}

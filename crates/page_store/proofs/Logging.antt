@@ -2,7 +2,7 @@
 use Rattle.std.proofs.Common.{◌≡◌, inl, inr, ℕ, ◌+◌, ◌<◌, ◌≤◌, Bool, true, false, List, [], ◌∷◌, ◌++◌, length, refl, sym, ap, ◌∙◌, arith}
 use Rattle.redo_log.specs.Blocks.{is_among_blocks, with_blocks, new_count}
 use Rattle.page_store.proofs.Imports.{◌==◌, ◌||◌, if◌then◌else◌, Result, Ok, Err, IsErrAnd, list_any, cases_lt, Fault, Stopped, LogFull, Page, with_changed, WaitsOn, Backing, ImagesFit, end_with}
-use Rattle.page_store.proofs.Imports.{limits_of, waiting_blocks, Log}
+use Rattle.page_store.proofs.Imports.{format_of, waiting_blocks, Log}
 use Rattle.redo_log.proofs.BlockLists.{length-with_blocks}
 
 -- to be one of these is one word of logs and of stores
@@ -18,7 +18,7 @@ blocks_changed blocks (page ∷ pages) =
     ∙ blocks_changed (if list_any (λ b. b == page.block) blocks then blocks else blocks ++ page.block ∷ []) pages
 
 -- if the blocks that don't wait don't fit, they are more than the room
-pub no_room : (log : Log) (room : ℕ) (pages : List Page) → (0 < room → end_with log room ≤ (limits_of log).log_bytes)
+pub no_room : (log : Log) (room : ℕ) (pages : List Page) → (0 < room → end_with log room ≤ (format_of log).log_bytes)
     → 0 < new_count (waiting_blocks log) pages → (ImagesFit log (new_count (waiting_blocks log) pages) → ⊥)
     → length (waiting_blocks log) + room < length (with_changed (waiting_blocks log) pages)
 no_room log room pages fits some full =

@@ -1,10 +1,10 @@
 -- How many images fit into a log.
 use Rattle.std.proofs.Common.{◌≡◌, ℕ, suc, ◌+◌, ◌-◌, ◌*◌, ◌<◌, ◌≤◌, inl, inr, arith}
-use Rattle.page_store.proofs.Imports.{cases_lt, whole_room, limits_of, end_with, ImagesFit, Log}
+use Rattle.page_store.proofs.Imports.{cases_lt, whole_room, format_of, end_with, ImagesFit, Log}
 
 -- what doesn't fit is longer than the log
-pub misfit : (log : Log) (n : ℕ) → (ImagesFit log n → ⊥) → (limits_of log).log_bytes < end_with log n
-misfit log n h = elim (cases_lt (limits_of log).log_bytes (end_with log n)) [
+pub misfit : (log : Log) (n : ℕ) → (ImagesFit log n → ⊥) → (format_of log).log_bytes < end_with log n
+misfit log n h = elim (cases_lt (format_of log).log_bytes (end_with log n)) [
   | inl long ↦ long
   | inr fits ↦ absurd (h fits)
 ]
@@ -18,7 +18,7 @@ promise_left log new bytes room left fits cost no_more = elim (cases_lt (suc lef
 ]
 
 -- `images` images cost no more than their room
-pub room_left : (log new : Log) (images room left : ℕ) → (0 < room → end_with log room ≤ (limits_of new).log_bytes)
+pub room_left : (log new : Log) (images room left : ℕ) → (0 < room → end_with log room ≤ (format_of new).log_bytes)
     → ((n : ℕ) → end_with new n ≤ end_with log (images + n)) → ((n : ℕ) → left < n → ImagesFit new n → ⊥) → room ≤ images + left
 room_left log new images room left fits cost no_more = elim (cases_lt (images + left) room) [
   | inl above ↦
@@ -31,7 +31,7 @@ room_left log new images room left fits cost no_more = elim (cases_lt (images + 
 
 -- a log in which nothing stands or waits has its whole room
 pub whole_left : (log : Log) (left : ℕ) → ((n : ℕ) → end_with log n ≡ 6 + 4096 * n) → ((n : ℕ) → 0 < n → n ≤ left → ImagesFit log n) → ((n : ℕ) → left < n → ImagesFit log n → ⊥)
-    → 6 ≤ (limits_of log).log_bytes → left ≡ whole_room (limits_of log)
+    → 6 ≤ (format_of log).log_bytes → left ≡ whole_room (format_of log)
 whole_left log left empty fit no_more long =
     let past = misfit log (suc left) (no_more (suc left) (omega arith)) in
     elim (cases_lt 0 left) [

@@ -1,6 +1,6 @@
 -- Pages as they were opened are an own device's.
 use Rattle.std.proofs.Common.{◌≡◌, ℕ, ◌+◌, ◌-◌, ◌*◌, ◌/◌, ◌<◌, ◌≤◌, true, List, [], ◌∷◌, length, inl, inr, refl, sym, subst, arith}
-use Rattle.page_store.proofs.Imports.{cases_lt, Page, AreStored, limits_of, keeps_restarts, place, Held, is_named, StandsOpened, IsOwn, History}
+use Rattle.page_store.proofs.Imports.{cases_lt, Page, AreStored, format_of, keeps_restarts, place, Held, is_named, StandsOpened, IsOwn, History}
 use Rattle.page_store.proofs.Restarting.{leaves_part}
 
 -- a list of no length
@@ -8,8 +8,8 @@ pub none_of_length : {A : Type 0} (xs : List A) → length xs ≡ 0 → xs ≡ [
 none_of_length [] is = refl
 none_of_length (x ∷ xs) is = absurd cc
 
-module _ (held : Held) (stored : AreStored (limits_of held.log) 0 held.history.start) (few : length held.history.start ≤ (limits_of held.log).pages)
-    (long : place (limits_of held.log) (limits_of held.log).pages ≤ length held.trace.now.seen) (clean : (block : ℕ) → held.unwritten block ≡ 0)
+module _ (held : Held) (stored : AreStored (format_of held.log) 0 held.history.start) (few : length held.history.start ≤ (format_of held.log).pages)
+    (long : place (format_of held.log) (format_of held.log).pages ≤ length held.trace.now.seen) (clean : (block : ℕ) → held.unwritten block ≡ 0)
     (fresh : length held.history.acts ≡ 0) (none : held.acts ≡ 0)
     (none_durable : held.durable ≡ 0) where
   abbrev from_start : History
@@ -25,7 +25,7 @@ module _ (held : Held) (stored : AreStored (limits_of held.log) 0 held.history.s
     long = long;
     acts_are = tt;
     counted = refl;
-    leaves = leaves_part (limits_of held.log) from_start stored few tt 0 0 held.trace.now (omega arith) stands.superblock_on stands.home long
+    leaves = leaves_part (format_of held.log) from_start stored few tt 0 0 held.trace.now (omega arith) stands.superblock_on stands.home long
         (keeps_restarts held.log held.trace.now [] 0 stands.log_keeps);
     kept = λ alive. record {
       base = 0;

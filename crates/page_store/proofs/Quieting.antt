@@ -8,7 +8,7 @@ use Rattle.page_store.proofs.FollowLaws.{follows_both}
 pub quiet_same : {D : Type 0} (g : Ghosts D) (a : LoggedPages D g) → IsSameButWritten g a a
 quiet_same g a = record {
   follows = follows_same (held_of g a);
-  pages = record { limits = refl; history = refl; used = refl; acts = refl };
+  pages = record { format = refl; history = refl; used = refl; acts = refl };
   promised = refl;
   idle = λ all. refl;
   order = part_same (changed_of a.pool);
@@ -29,7 +29,7 @@ pub quiet_both : {D : Type 0} (g : Ghosts D) (a b c : LoggedPages D g) → IsSam
 quiet_both g a b c f s = record {
   follows = follows_both (held_of g a) (held_of g b) (held_of g c) f.follows s.follows;
   pages = record {
-    limits = s.pages.limits ∙ f.pages.limits;
+    format = s.pages.format ∙ f.pages.format;
     history = s.pages.history ∙ f.pages.history;
     used = s.pages.used ∙ f.pages.used;
     acts = s.pages.acts ∙ f.pages.acts;
@@ -46,12 +46,12 @@ quiet_both g a b c f s = record {
 }
 
 -- if the store is as it was except for the pool, of which some changed pages are noted as written
-pub quiet_noted : {D : Type 0} (g : Ghosts D) (a b : LoggedPages D g) → b.limits ≡ a.limits → b.history ≡ a.history → b.used ≡ a.used
+pub quiet_noted : {D : Type 0} (g : Ghosts D) (a b : LoggedPages D g) → b.format ≡ a.format → b.history ≡ a.history → b.used ≡ a.used
     → b.acts ≡ a.acts → b.promised ≡ a.promised → b.room ≡ a.room → b.log ≡ a.log → IsPartOf (changed_of b.pool) (changed_of a.pool)
     → Follows (held_of g a) (held_of g b) → IsSameButWritten g a b
-quiet_noted g a b limits history used acts promised room log order follows = record {
+quiet_noted g a b format history used acts promised room log order follows = record {
   follows = follows;
-  pages = record { limits = limits; history = history; used = used; acts = acts };
+  pages = record { format = format; history = history; used = used; acts = acts };
   promised = promised;
   idle = λ all. room;
   order = order;

@@ -17,17 +17,17 @@ reading_rises block (Ok x) old new same = omega arith
 reading_rises block (Err e) old new (inl io) = omega (arith, io.1)
 reading_rises block (Err e) old new (inr damaged) = omega (arith, damaged.1)
 
-module _ (limits : Format) (pages : List Page) (acts : ℕ) (pool : Pool) (honest : Bool) (m : DiskMoment) (holds : HoldsPages limits pages acts pool honest m) (stored : AreStored limits 0 pages) where
+module _ (format : Format) (pages : List Page) (acts : ℕ) (pool : Pool) (honest : Bool) (m : DiskMoment) (holds : HoldsPages format pages acts pool honest m) (stored : AreStored format 0 pages) where
   -- a read of a page that isn't held gives it, or the device failed
   pub read_gives : {T : Type 0} (block : ℕ) (page given : Page) (r : Result T Fault) → slice_get pages block ≡ Some page → act_of pool block ≡ 0 → honest ≡ true
-      → ((there : Page) → IsStored limits block there → Has (place limits block) (page_bytes there) m.seen → GivesPage there given r) → GivesPage page given r
-  read_gives block page given r found clean h gives = gives page (stored_page limits block pages page stored found) (holds.seen h block page found clean)
+      → ((there : Page) → IsStored format block there → Has (place format block) (page_bytes there) m.seen → GivesPage there given r) → GivesPage page given r
+  read_gives block page given r found clean h gives = gives page (stored_page format block pages page stored found) (holds.seen h block page found clean)
 
   -- a held page is the one in use
   pub held_is : (block : ℕ) (held : Page) → block < length pages → held_page pool block ≡ Some held → honest ≡ true → slice_get pages block ≡ Some held
   held_is block held used found h =
       let there = page_in_use pages block used in
-      there.1 ∙ ap Some (one_page there.0 held (stored_page limits block pages there.0 stored there.1).storable.admitted
+      there.1 ∙ ap Some (one_page there.0 held (stored_page format block pages there.0 stored there.1).storable.admitted
       (holds.stored block held used found).storable.admitted (sym (holds.held h block held there.0 found there.1)))
 
 pub given_right : {T : Type 0} (pages : List Page) (block : ℕ) (page given : Page) (honest : Bool) (r : Result T Fault) → slice_get pages block ≡ Some page → (honest ≡ true → GivesPage page given r)

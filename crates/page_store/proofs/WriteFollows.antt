@@ -3,7 +3,7 @@
 use Rattle.std.proofs.Common.{◌≡◌, ◌≢◌, ◌⊎◌, ℕ, ◌+◌, ◌<◌, ◌≤◌, Bool, true, false, Some, None, List, [], length, take, drop, replicate, slice_get, refl, sym, ap, subst, inl, inr, ◌∙◌, arith}
 use Rattle.page_codec.specs.Spelling.{page_bytes}
 use Rattle.page_store.proofs.Imports.{append-nil, length-replicate, is_some, DiskMoment, Trace, synced, AtEachMoment, Has, ChangesOnly, goes_weaker, goes_now, has_kept, kept, synced_only, Format}
-use Rattle.page_store.proofs.Imports.{Page, length-page, stored_page, last_image, images_of, limits_of, is_stopped, keeps_elsewhere, place, pages_after, pages_now, Held, pages_held, is_named}
+use Rattle.page_store.proofs.Imports.{Page, length-page, stored_page, last_image, images_of, format_of, is_stopped, keeps_elsewhere, place, pages_after, pages_now, Held, pages_held, is_named}
 use Rattle.page_store.proofs.Imports.{IsKept, IsOwn, Follows, History}
 use Rattle.page_store.proofs.Images.{stored-after_acts, image_cases, none_among_later, none_in_parts, drop_both}
 use Rattle.page_store.proofs.Places.{apart_long}
@@ -12,7 +12,7 @@ use Rattle.page_store.proofs.ForceFollows.{leaves_kept}
 
 module _ (old : Held) (own : IsOwn old) (alive : is_stopped old.log ≡ false) where
   abbrev l : Format
-  l = limits_of old.log
+  l = format_of old.log
 
   abbrev h : History
   h = old.history
@@ -33,10 +33,10 @@ module _ (old : Held) (own : IsOwn old) (alive : is_stopped old.log ≡ false) w
   forced_image : (block : ℕ) → 0 < old.unwritten block → old.unwritten block ≤ old.durable → is_named (take k.forced since) block ≡ true
   forced_image block some durable = elim (image_cases (last_image (images_of (take k.forced since)) block)) [
     | inl none ↦
-        let behind : last_image (images_of (drop k.forced since)) block ≡ None =
+        let none_after : last_image (images_of (drop k.forced since)) block ≡ None =
         ap (λ (as' : List (List Page)). last_image (images_of as') block) (drop_both h.acts k.base k.forced)
         ∙ none_among_later h.acts (old.unwritten block) (k.base + k.forced) block (omega (arith, durable, k.durable_is)) (k.last block some) in
-        let never : is_named since block ≡ false = ap is_some (none_in_parts since k.forced block none behind) in
+        let never : is_named since block ≡ false = ap is_some (none_in_parts since k.forced block none none_after) in
         (let both : true ≡ false = sym (k.named block some) ∙ never in absurd cc)
     | inr is ↦ is
   ]
@@ -109,7 +109,7 @@ goes_kept old trace honest failures alive same more goes = record {
           leaves = leaves_kept old own old.log trace.now old.unwritten old.durable refl (omega (arith, own.long, now.1)) now.0;
           kept = λ still. now.0;
         };
-        limits = refl;
+        format = refl;
         start = refl;
         more = [];
         acts = sym (append-nil old.history.acts);
@@ -119,7 +119,7 @@ goes_kept old trace honest failures alive same more goes = record {
 
 -- the page of a block whose last act is durable was written, or that failed
 pub follows_written : (old : Held) (block : ℕ) (trace : Trace) (honest : Bool) (failures : ℕ) → is_stopped old.log ≡ false → 0 < old.unwritten block → old.unwritten block ≤ old.durable
-    → AtEachMoment (ChangesOnly (place (limits_of old.log) block) 4096 old.trace.now) old.trace trace → honest ≡ old.honest → old.failures ≤ failures
+    → AtEachMoment (ChangesOnly (place (format_of old.log) block) 4096 old.trace.now) old.trace trace → honest ≡ old.honest → old.failures ≤ failures
     → Follows old (record old { trace = trace; honest = honest; failures = failures })
 follows_written old block trace honest failures alive some durable moments same more =
     goes_kept old trace honest failures alive same more
@@ -133,12 +133,12 @@ follows_synced old trace honest failures alive moments same more =
     goes_kept old trace honest failures alive same more
     (λ own. goes_weaker _ _ old.trace trace (λ m is.
     subst (λ (n : DiskMoment). IsKept old.log n old.unwritten old.history old.durable × (length n.seen ≡ length old.trace.now.seen)) (sym is)
-    (kept_alike old own alive (synced old.trace.now) (synced_only (place (limits_of old.log) 0) 0 old.trace.now), refl)) moments)
+    (kept_alike old own alive (synced old.trace.now) (synced_only (place (format_of old.log) 0) 0 old.trace.now), refl)) moments)
 
 -- pages that stand at their places are noted as written
 noted_follows : (old : Held) (unwritten : ℕ → ℕ) (changed : List ℕ)
     → ((block : ℕ) → (unwritten block ≡ old.unwritten block)
-    ⊎ ((unwritten block ≡ 0) × ((page : Page) → slice_get (pages_held old) block ≡ Some page → Has (place (limits_of old.log) block) (page_bytes page) old.trace.now.seen)))
+    ⊎ ((unwritten block ≡ 0) × ((page : Page) → slice_get (pages_held old) block ≡ Some page → Has (place (format_of old.log) block) (page_bytes page) old.trace.now.seen)))
     → Follows old (record old { unwritten = unwritten; changed = changed })
 noted_follows old unwritten changed noted = record {
   later = record { failures = omega arith; durable = omega arith; stopped = λ s. s; stop_has_cause = λ s. inl s; honest = λ s. s };
@@ -152,7 +152,7 @@ noted_follows old unwritten changed noted = record {
       leaves = own.leaves;
       kept = λ alive. kept_noted (own.kept alive);
     };
-    limits = refl;
+    format = refl;
     start = refl;
     more = [];
     acts = sym (append-nil old.history.acts);
@@ -187,11 +187,11 @@ noted_follows old unwritten changed noted = record {
     }
 
 -- ... at their places under these limits
-pub follows_noted : (old : Held) (unwritten : ℕ → ℕ) (changed : List ℕ) (limits : Format) → limits_of old.log ≡ limits
+pub follows_noted : (old : Held) (unwritten : ℕ → ℕ) (changed : List ℕ) (format : Format) → format_of old.log ≡ format
     → ((block : ℕ) → (unwritten block ≡ old.unwritten block)
-    ⊎ ((unwritten block ≡ 0) × ((page : Page) → slice_get (pages_held old) block ≡ Some page → Has (place limits block) (page_bytes page) old.trace.now.seen)))
+    ⊎ ((unwritten block ≡ 0) × ((page : Page) → slice_get (pages_held old) block ≡ Some page → Has (place format block) (page_bytes page) old.trace.now.seen)))
     → Follows old (record old { unwritten = unwritten; changed = changed })
-follows_noted old unwritten changed limits is noted = noted_follows old unwritten changed
+follows_noted old unwritten changed format is noted = noted_follows old unwritten changed
     (subst (λ (l : Format). (block : ℕ) → (unwritten block ≡ old.unwritten block)
     ⊎ ((unwritten block ≡ 0) × ((page : Page) → slice_get (pages_held old) block ≡ Some page → Has (place l block) (page_bytes page) old.trace.now.seen))) (sym is) noted)
 
@@ -210,7 +210,7 @@ read_follows old honest failures was more = record {
       leaves = own.leaves;
       kept = own.kept;
     };
-    limits = refl;
+    format = refl;
     start = refl;
     more = [];
     acts = sym (append-nil old.history.acts);

@@ -19,9 +19,9 @@ front P [] ns some = elim some [ ]
 front P (m ∷ ms) ns (inl p) = inl p
 front P (m ∷ ms) ns (inr some) = inr (front P ms ns some)
 
-behind : (P : DiskMoment → Type 0) (ms ns : List DiskMoment) → AtSome P ns → AtSome P (ms ++ ns)
-behind P [] ns some = some
-behind P (m ∷ ms) ns some = inr (behind P ms ns some)
+later : (P : DiskMoment → Type 0) (ms ns : List DiskMoment) → AtSome P ns → AtSome P (ms ++ ns)
+later P [] ns some = some
+later P (m ∷ ms) ns some = inr (later P ms ns some)
 
 -- the newest moment is the first of all since an earlier one
 newest : (P : DiskMoment → Type 0) (first second : Trace) (early : List DiskMoment)
@@ -63,7 +63,7 @@ module _ (first second third : Trace) (image : List ℕ) (early late : List Disk
   left_early h =
       let all : h.since ≡ early =
       append_cancel_right h.since early (first.now ∷ first.past) (sym h.is ∙ to_second) in
-      whole (behind may late (early ++ first.now ∷ []) (subst (λ (l : List DiskMoment). AtSome may (l ++ first.now ∷ [])) all h.left))
+      whole (later may late (early ++ first.now ∷ []) (subst (λ (l : List DiskMoment). AtSome may (l ++ first.now ∷ [])) all h.left))
 
   pub left_late : MayHaveCrashedTo second third image → MayHaveCrashedTo first third image
   unfolding may
@@ -72,6 +72,6 @@ module _ (first second third : Trace) (image : List ℕ) (early late : List Disk
       append_cancel_right h.since late (second.now ∷ second.past) (sym h.is ∙ to_third) in
       elim (split may late (second.now ∷ []) (subst (λ (l : List DiskMoment). AtSome may (l ++ second.now ∷ [])) all h.left)) [
         | inl since ↦ whole (front may late (early ++ first.now ∷ []) since)
-        | inr (inl here) ↦ whole (behind may late (early ++ first.now ∷ []) (newest may first second early to_second here))
+        | inr (inl here) ↦ whole (later may late (early ++ first.now ∷ []) (newest may first second early to_second here))
         | inr (inr none) ↦ elim none [ ]
       ]

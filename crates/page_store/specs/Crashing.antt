@@ -8,7 +8,7 @@ use Rattle.device.proofs.Going.{goes_leaves}
 use Rattle.index_model.specs.declared.format.Format.{Format}
 use Rattle.page_codec.specs.declared.page.Page.{Page}
 use Rattle.page_action.specs.Crashes.{CrashesToPrefix}
-use Rattle.redo_log.specs.Kept.{limits_of}
+use Rattle.redo_log.specs.Kept.{format_of}
 use Rattle.page_store.specs.Between.{left_between, left_early, left_late}
 use Rattle.page_store.specs.Histories.{after_acts, pages_after}
 use Rattle.page_store.specs.Restart.{RestartsTo, RestartsToPart, CrashesToPart}
@@ -25,15 +25,15 @@ pages_of_more h longer more part start acts le =
     ∙ ap (after_acts h.start) (ap (take part) acts ∙ take-append-le part h.acts more le)
 
 -- a prefix of the acts is one of more acts
-pub part_of_more : (limits : Format) (h longer : History) (more : List (List Page))
+pub part_of_more : (format : Format) (h longer : History) (more : List (List Page))
     (low least : ℕ) (image : List ℕ)
     → longer.start ≡ h.start → longer.acts ≡ h.acts ++ more → low ≤ least
-    → RestartsToPart limits h least image → RestartsToPart limits longer low image
-part_of_more limits h longer more low least image start acts le r = record {
+    → RestartsToPart format h least image → RestartsToPart format longer low image
+part_of_more format h longer more low least image start acts le r = record {
   part = r.part;
   from = omega (arith, r.from);
   to = omega (arith, r.to, ap length acts, length-append h.acts more);
-  restarts = subst (RestartsTo limits image) (sym (pages_of_more h longer more r.part start acts r.to)) r.restarts;
+  restarts = subst (RestartsTo format image) (sym (pages_of_more h longer more r.part start acts r.to)) r.restarts;
 }
 
 -- a crash now leaves what it may leave at this moment
@@ -55,22 +55,22 @@ module _ (first now : Held) (own : IsOwn first) (follows : Follows first now) wh
   pub own_now : IsOwn now
   own_now = (follows.grows own).own
 
-  pub crash_restarts : (limits : Format) (image : List ℕ) → limits_of now.log ≡ limits
+  pub crash_restarts : (format : Format) (image : List ℕ) → format_of now.log ≡ format
       → MayHaveCrashedTo first.trace now.trace image
-      → RestartsToPart limits now.history first.durable image
-  crash_restarts limits image is left =
+      → RestartsToPart format now.history first.durable image
+  crash_restarts format image is left =
       let on = follows.grows own in
-      let l = limits_of first.log in
+      let l = format_of first.log in
       let here = goes_leaves (CrashesToPart l now.history first.durable) first.trace now.trace image on.moments
       (λ old_image may. part_of_more l first.history now.history on.more first.durable first.durable old_image on.start on.acts (omega arith) (own.leaves old_image may)) left in
-      subst (λ (x : Format). RestartsToPart x now.history first.durable image) (sym on.limits ∙ is) (here.1 image here.2)
+      subst (λ (x : Format). RestartsToPart x now.history first.durable image) (sym on.format ∙ is) (here.1 image here.2)
 
   -- ... in the words of a store of pages
-  pub leaves_first : (limits : Format) (image : List ℕ) → limits_of now.log ≡ limits
+  pub leaves_first : (format : Format) (image : List ℕ) → format_of now.log ≡ format
       → MayHaveCrashedTo first.trace now.trace image
-      → CrashesToPrefix first.durable now.acts (pages_after now.history) (RestartsTo limits image)
-  leaves_first limits image is left =
-      let r = crash_restarts limits image is left in
+      → CrashesToPrefix first.durable now.acts (pages_after now.history) (RestartsTo format image)
+  leaves_first format image is left =
+      let r = crash_restarts format image is left in
       record { part = r.part; from = r.from; to = omega (arith, r.to, own_now.counted); restarts_to = r.restarts }
 
   pub acts_later : first.acts ≤ now.acts
@@ -90,11 +90,11 @@ module _ (first now : Held) (own : IsOwn first) (follows : Follows first now) wh
 -- what a crash left since the first, it left up to the second, or since that one
 module _ (first second third : Held) (own : IsOwn first) (follows : Follows first second)
     (then : Follows second third) (image : List ℕ) where
-  abbrev early : AtEachMoment (CrashesToPart (limits_of first.log) second.history first.durable)
+  abbrev early : AtEachMoment (CrashesToPart (format_of first.log) second.history first.durable)
       first.trace second.trace
   early = (follows.grows own).moments
 
-  abbrev late : AtEachMoment (CrashesToPart (limits_of second.log) third.history second.durable)
+  abbrev late : AtEachMoment (CrashesToPart (format_of second.log) third.history second.durable)
       second.trace third.trace
   late = (then.grows (own_now first second own follows)).moments
 

@@ -6,7 +6,7 @@ use Rattle.device.specs.Moments.{AtEachMoment}
 use Rattle.page_codec.specs.declared.page.Page.{Page}
 use Rattle.page_action.specs.MapStore.{same_later}
 use Rattle.page_action.specs.States.{IsLater}
-use Rattle.redo_log.specs.Kept.{limits_of}
+use Rattle.redo_log.specs.Kept.{format_of}
 use Rattle.page_store.specs.Restart.{CrashesToPart}
 use Rattle.page_store.specs.Logged.{Held, backing_of, IsOwn}
 
@@ -14,11 +14,11 @@ use Rattle.page_store.specs.Logged.{Held, backing_of, IsOwn}
 -- that were durable
 pub record GrowsTo (old new : Held) : Type 0 where
   pub own : IsOwn new
-  pub limits : limits_of new.log ≡ limits_of old.log
+  pub format : format_of new.log ≡ format_of old.log
   pub start : new.history.start ≡ old.history.start
   pub more : List (List Page)
   pub acts : new.history.acts ≡ old.history.acts ++ more
-  pub moments : AtEachMoment (CrashesToPart (limits_of old.log) new.history old.durable) old.trace new.trace
+  pub moments : AtEachMoment (CrashesToPart (format_of old.log) new.history old.durable) old.trace new.trace
 
 -- no count goes back; and if the first pages are an own device's, so are the second
 pub record Follows (old new : Held) : Type 0 where
@@ -31,7 +31,7 @@ follows_same held = record {
   later = same_later (backing_of held);
   grows = λ own. record {
     own = own;
-    limits = refl;
+    format = refl;
     start = refl;
     more = [];
     acts = sym (append-nil held.history.acts);

@@ -29,6 +29,6 @@ pages_now h = after_acts h.start h.acts
 
 -- each of these acts could be done on the pages that those before it leave
 abbrev pub AreActs : Format → List Page → List (List Page) → Type 0
-AreActs limits pages [] = Unit {0}
-AreActs limits pages (changed ∷ acts) =
-    AreActable limits (length pages) changed × AreActs limits (with_pages pages changed) acts
+AreActs format pages [] = Unit {0}
+AreActs format pages (changed ∷ acts) =
+    AreActable format (length pages) changed × AreActs format (with_pages pages changed) acts

@@ -12,9 +12,9 @@ use Rattle.page_store.specs.Writing.{HoldsPages, HoldsWaiting}
 Has-prop : (at : ℕ) (bytes file : List ℕ) → IsProp (Has at bytes file)
 Has-prop at bytes file = hlevel props
 
-pub HoldsPages-prop : (limits : Format) (pages : List Page) (acts : ℕ) (pool : Pool) (honest : Bool)
-    (m : DiskMoment) → IsProp (HoldsPages limits pages acts pool honest m)
-HoldsPages-prop limits pages acts pool honest m = hlevel (props, IsStored-prop)
+pub HoldsPages-prop : (format : Format) (pages : List Page) (acts : ℕ) (pool : Pool) (honest : Bool)
+    (m : DiskMoment) → IsProp (HoldsPages format pages acts pool honest m)
+HoldsPages-prop format pages acts pool honest m = hlevel (props, IsStored-prop)
 
 pub HoldsWaiting-prop : (images : List Page) (durable : ℕ) (pool : Pool)
     → IsProp (HoldsWaiting images durable pool)

@@ -12,7 +12,7 @@ use Rattle.page_action.specs.Frames.{Memory}
 use Rattle.page_action.specs.States.{Backing}
 use Rattle.page_action.specs.Stored.{AreStored}
 use Rattle.redo_log.specs.Images.{last_image, images_of}
-use Rattle.redo_log.specs.Kept.{LogHolds, limits_of, is_stopped, waiting_blocks}
+use Rattle.redo_log.specs.Kept.{LogHolds, format_of, is_stopped, waiting_blocks}
 use Rattle.redo_log.specs.declared.log.Log.{Log}
 use Rattle.page_store.specs.Histories.{pages_after, pages_now, AreActs}
 use Rattle.page_codec.specs.Places.{superblock, place}
@@ -58,7 +58,7 @@ held_of g logged = record {
 
 -- the pages and their acts are as they were
 pub record SamePages {D : Type 0} (g : Ghosts D) (old new : LoggedPages D g) : Type 0 where
-  pub limits : new.limits ≡ old.limits
+  pub format : new.format ≡ old.format
   pub history : new.history ≡ old.history
   pub used : new.used ≡ old.used
   pub acts : new.acts ≡ old.acts
@@ -95,13 +95,13 @@ abbrev pub memory_in : Pool → Memory
 memory_in pool = record { held = pool_blocks pool; unwritten = act_of pool }
 
 -- each block that has no image among these stands at its place: its page, or zeros if it has none
-pub record AreHome (limits : Format) (images pages : List Page) (m : DiskMoment) : Type 0 where
+pub record AreHome (format : Format) (images pages : List Page) (m : DiskMoment) : Type 0 where
   pub used : (block : ℕ) (page : Page) → slice_get pages block ≡ Some page
       → last_image images block ≡ None
-      → OnDisk (place limits block) (page_bytes page) m
-  pub unused : (block : ℕ) → length pages ≤ block → block < limits.pages
+      → OnDisk (place format block) (page_bytes page) m
+  pub unused : (block : ℕ) → length pages ≤ block → block < format.pages
       → last_image images block ≡ None
-      → OnDisk (place limits block) (replicate 4096 0) m
+      → OnDisk (place format block) (replicate 4096 0) m
 
 -- the block has an image among these acts
 abbrev pub is_named : List (List Page) → ℕ → Bool
@@ -116,25 +116,25 @@ pub record IsKept (log : Log) (m : DiskMoment) (unwritten : ℕ → ℕ) (h : Hi
   pub base_few : base ≤ length h.acts
   pub durable_is : durable ≡ base + forced
   pub log_keeps : LogHolds log m (drop base h.acts) forced
-  pub home : AreHome (limits_of log) (images_of (take forced (drop base h.acts)))
+  pub home : AreHome (format_of log) (images_of (take forced (drop base h.acts)))
       (pages_after h base) m
-  pub superblock_on : OnDisk 0 (superblock (limits_of log)) m
+  pub superblock_on : OnDisk 0 (superblock (format_of log)) m
   pub named : (block : ℕ) → 0 < unwritten block → is_named (drop base h.acts) block ≡ true
   pub last : (block : ℕ) → 0 < unwritten block
       → last_image (images_of (drop (unwritten block) h.acts)) block ≡ None
   pub written : (block : ℕ) (page : Page) → slice_get (pages_now h) block ≡ Some page
       → unwritten block ≡ 0 → is_named (drop base h.acts) block ≡ true
-      → Has (place (limits_of log) block) (page_bytes page) m.seen
+      → Has (place (format_of log) block) (page_bytes page) m.seen
 
 -- the pages are those after all acts of the history; a crash leaves a prefix of the acts, with all durable
 -- ones; while the log has not failed it keeps them
 pub record IsOwn (held : Held) : Type 0 where
-  pub start_stored : AreStored (limits_of held.log) 0 held.history.start
-  pub start_few : length held.history.start ≤ (limits_of held.log).pages
-  pub long : place (limits_of held.log) (limits_of held.log).pages ≤ length held.trace.now.seen
-  pub acts_are : AreActs (limits_of held.log) held.history.start held.history.acts
+  pub start_stored : AreStored (format_of held.log) 0 held.history.start
+  pub start_few : length held.history.start ≤ (format_of held.log).pages
+  pub long : place (format_of held.log) (format_of held.log).pages ≤ length held.trace.now.seen
+  pub acts_are : AreActs (format_of held.log) held.history.start held.history.acts
   pub counted : held.acts ≡ length held.history.acts
-  pub leaves : CrashesToPart (limits_of held.log) held.history held.durable held.trace.now
+  pub leaves : CrashesToPart (format_of held.log) held.history held.durable held.trace.now
   pub kept : is_stopped held.log ≡ false
       → IsKept held.log held.trace.now held.unwritten held.history held.durable
 
@@ -142,5 +142,5 @@ pub record IsOwn (held : Held) : Type 0 where
 -- at those of the other blocks, and no crash changes this
 pub record StandsOpened (log : Log) (m : DiskMoment) (pages : List Page) : Type 0 where
   pub log_keeps : LogHolds log m [] 0
-  pub home : AreHome (limits_of log) [] pages m
-  pub superblock_on : OnDisk 0 (superblock (limits_of log)) m
+  pub home : AreHome (format_of log) [] pages m
+  pub superblock_on : OnDisk 0 (superblock (format_of log)) m

@@ -6,8 +6,8 @@ use Rattle.page_codec.specs.declared.page.Page.{Page}
 use Rattle.page_store.specs.declared.log_room.StoreRoom.{StoreRoom}
 
 -- the limits that it was made for
-abbrev pub limits_of_room : StoreRoom → Format
-limits_of_room room = room.limits
+abbrev pub format_of_room : StoreRoom → Format
+format_of_room room = room.format
 
 -- the pages, by their blocks
 abbrev pub pages_of_room : StoreRoom → List Page

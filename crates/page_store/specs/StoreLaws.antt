@@ -28,7 +28,7 @@ module _ {D : Type 0} (g : Ghosts D) where
 
   -- the bytes restart to the pages, under its limits
   abbrev pub restarts_by : Store D g → List ℕ → List Page → Type 0
-  restarts_by s image pages = RestartsTo (state_of g s).limits image pages
+  restarts_by s image pages = RestartsTo (state_of g s).format image pages
 
   pub store_laws : IsPageStore (state_of g) (λ s. backing_of (held_by g s))
       follows_by (IsOwnStore g) past_of leaves_by restarts_by
@@ -38,13 +38,13 @@ module _ {D : Type 0} (g : Ghosts D) where
     durable_few = λ s. s.held.not_ahead;
     room_is_promised = λ s. record { most = s.held.promise; least = s.held.kept_promise };
     stored = λ s. s.held.stored;
-    few = λ s. subst (λ (n : ℕ). n ≤ s.held.limits.pages) s.held.used_is s.held.few;
+    few = λ s. subst (λ (n : ℕ). n ≤ s.held.format.pages) s.held.used_is s.held.few;
     own_stays = λ s t own h. own_now (held_by g s) (held_by g t) own h;
     acts_later = λ s t own h. acts_later (held_by g s) (held_by g t) own h;
     past_now = λ s own. past_is_now (held_by g s) own;
     past_stays = λ s t part own h le. pages_stay (held_by g s) (held_by g t) own h part le;
     leaves_first = λ s t image own h left.
-        leaves_first (held_by g s) (held_by g t) own h t.held.limits image t.held.log_limits left;
+        leaves_first (held_by g s) (held_by g t) own h t.held.format image t.held.log_format left;
     leaves_between = λ s t u image own h then left.
         leaves_between (held_by g s) (held_by g t) (held_by g u) own h then image left;
     leaves_early = λ s t u image own h then left.

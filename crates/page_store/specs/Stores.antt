@@ -14,7 +14,7 @@ use Rattle.page_store.specs.declared.store.Store.{Store}
 -- its pages and calls
 abbrev pub state_of : {D : Type 0} (g : Ghosts D) → Store D g → State
 state_of g store =
-    state_with store.held.limits (most_of store.held.pool) (pages_now store.held.history)
+    state_with store.held.format (most_of store.held.pool) (pages_now store.held.history)
     store.held.acts store.calls
 
 -- its pages, log and device, as plain data
@@ -35,5 +35,5 @@ IsOwnStore g store = IsOwn (held_by g store)
 
 -- no act, no call, no hold yet
 abbrev pub opened_state : Format → ℕ → List Page → List ℕ → ℕ → State
-opened_state limits frames pages counted last_cycle =
-    state_with limits frames pages 0 (opened_calls limits.pages counted last_cycle)
+opened_state format frames pages counted last_cycle =
+    state_with format frames pages 0 (opened_calls format.pages counted last_cycle)

@@ -33,7 +33,7 @@ pub record AreWrittenAhead (pinned : List ℕ) (durable place : ℕ) (old new : 
   pub front : List ℕ
   pub more : List ℕ
   pub rest : List ℕ
-  pub behind : length front ≡ place
+  pub passed : length front ≡ place
   pub was : changed_of old ≡ front ++ (more ++ rest)
   pub left : changed_of new ≡ front ++ rest
   pub few : length more ≤ most_of old / 4

@@ -16,24 +16,24 @@ use Rattle.redo_log.specs.Images.{last_image}
 
 -- a read gives each of these pages at its place
 abbrev pub AreSeen : Format → List Page → DiskMoment → Type 0
-AreSeen limits pages m = (block : ℕ) (page : Page) → slice_get pages block ≡ Some page
-    → Has (place limits block) (page_bytes page) m.seen
+AreSeen format pages m = (block : ℕ) (page : Page) → slice_get pages block ≡ Some page
+    → Has (place format block) (page_bytes page) m.seen
 
 -- What the pool holds of these pages, after `acts` acts: changed pages as the acts have left them; and if the
 -- device kept its model, each as it is, and the others at their places.
-pub record HoldsPages (limits : Format) (pages : List Page) (acts : ℕ) (pool : Pool) (honest : Bool)
+pub record HoldsPages (format : Format) (pages : List Page) (acts : ℕ) (pool : Pool) (honest : Bool)
     (m : DiskMoment) : Type 0 where
   pub few : (block : ℕ) → act_of pool block ≤ acts
   pub in_use : (block : ℕ) → 0 < act_of pool block → block < length pages
   pub stored : (block : ℕ) (page : Page) → block < length pages → held_page pool block ≡ Some page
-      → IsStored limits block page
+      → IsStored format block page
   pub changed : (block : ℕ) (held page : Page) → 0 < act_of pool block
       → held_page pool block ≡ Some held → slice_get pages block ≡ Some page
       → page_bytes held ≡ page_bytes page
   pub held : honest ≡ true → (block : ℕ) (held page : Page) → held_page pool block ≡ Some held
       → slice_get pages block ≡ Some page → page_bytes held ≡ page_bytes page
   pub seen : honest ≡ true → (block : ℕ) (page : Page) → slice_get pages block ≡ Some page
-      → act_of pool block ≡ 0 → Has (place limits block) (page_bytes page) m.seen
+      → act_of pool block ≡ 0 → Has (place format block) (page_bytes page) m.seen
 
 -- What waits in the log is held: each block of these images was changed last by an act after the first
 -- `durable` ones, and its page has the bytes of its last image.
@@ -44,9 +44,9 @@ pub record HoldsWaiting (images : List Page) (durable : ℕ) (pool : Pool) : Typ
 
 -- the first `count` of the changed pages stand at their places, as a read gives them
 abbrev pub AreWrittenUpTo : Format → Pool → ℕ → DiskMoment → Type 0
-AreWrittenUpTo limits pool count m = (block : ℕ) (page : Page)
+AreWrittenUpTo format pool count m = (block : ℕ) (page : Page)
     → has_block (take count (changed_of pool)) block ≡ true → held_page pool block ≡ Some page
-    → Has (place limits block) (page_bytes page) m.seen
+    → Has (place format block) (page_bytes page) m.seen
 
 -- a read gave this page, or the device failed
 abbrev pub GivesPage : {T : Type 0} → Page → Page → Result T Fault → Type 0

@@ -170,8 +170,8 @@ impl<D: Device> LoggedPages<D> {
     // model gave, or of a block that is not in use.
     fn put(&mut self, at: usize)
         requires free { CanBeTaken self.old.pool at }
-        requires stored { IsStored self.old.limits self.old.decoded.value.block self.old.decoded.value }
-        requires below { self.old.decoded.value.block < self.old.limits.pages }
+        requires stored { IsStored self.old.format self.old.decoded.value.block self.old.decoded.value }
+        requires below { self.old.decoded.value.block < self.old.format.pages }
         requires absent { frame_of self.old.pool self.old.decoded.value.block ≡ None }
         requires right { D.is_honest self.old.device ≡ true → (there : Page)
             → slice_get (pages_now self.old.history) self.old.decoded.value.block ≡ Some there
@@ -197,7 +197,7 @@ impl<D: Device> LoggedPages<D> {
         ensures log { self.new.log ≡ self.old.log }
         ensures durable { self.new.durable ≡ self.old.durable }
         ensures room { self.new.room ≡ self.old.room }
-        ensures stored { OnOk result (IsStored self.old.limits block self.new.decoded.value) }
+        ensures stored { OnOk result (IsStored self.old.format block self.new.decoded.value) }
         ensures right { OnOk result (D.is_honest self.new.device ≡ true
             → slice_get (pages_now self.old.history) block ≡ Some self.new.decoded.value) }
         ensures honest { D.is_honest self.new.device ≡ true
@@ -206,7 +206,7 @@ impl<D: Device> LoggedPages<D> {
             (D.failures self.old.device) (D.failures self.new.device) }
     {
         self.pool.law();
-        read_page(&mut self.device, self.limits, block, &mut self.decoded)
+        read_page(&mut self.device, self.format, block, &mut self.decoded)
     }
 
     /// Brings the page of a block in use into memory, while the pages of these blocks are pinned. Refused
@@ -254,7 +254,7 @@ impl<D: Device> LoggedPages<D> {
     // Decodes the page of a block that an act is to change, if the block is in use and the device gives
     // it; else copies the page itself. Nobody looks at it before the act is done. Refused with `Io`.
     fn read_or_copy(&mut self, page: &Page) -> Result<(), Fault>
-        requires stored { IsStored self.old.limits page.now.block page.now }
+        requires stored { IsStored self.old.format page.now.block page.now }
         requires absent { frame_of self.old.pool page.now.block ≡ None }
         ensures quiet { IsSameButWritten D.Device self.old self.new }
         ensures pool { self.new.pool ≡ self.old.pool }
@@ -262,7 +262,7 @@ impl<D: Device> LoggedPages<D> {
         ensures durable { self.new.durable ≡ self.old.durable }
         ensures room { self.new.room ≡ self.old.room }
         ensures stored { OnOk result
-            (IsStored self.old.limits page.now.block self.new.decoded.value) }
+            (IsStored self.old.format page.now.block self.new.decoded.value) }
         ensures right { OnOk result (D.is_honest self.new.device ≡ true → (there : Page)
             → slice_get (pages_now self.old.history) page.now.block ≡ Some there
             → self.new.decoded.value ≡ there) }
@@ -284,8 +284,8 @@ impl<D: Device> LoggedPages<D> {
 
     // Takes a frame for a page that an act is to change. Refused with `NoFrame`, `Io` and `Stopped`.
     fn take_frame(&mut self, page: &Page, pinned: &[u32]) -> Result<(), Fault>
-        requires stored { IsStored self.old.limits page.now.block page.now }
-        requires below { page.now.block < self.old.limits.pages }
+        requires stored { IsStored self.old.format page.now.block page.now }
+        requires below { page.now.block < self.old.format.pages }
         requires pinned { has_block pinned.now page.now.block ≡ true }
         ensures quiet { IsSameButWritten D.Device self.old self.new }
         ensures frame { GetsFrame D.Device pinned.now page.now.block self.old self.new }
@@ -309,7 +309,7 @@ impl<D: Device> LoggedPages<D> {
     /// Takes a frame for each of these pages, while the pages of these blocks are pinned, their own among
     /// them. Refused with `NoFrame` (10), `Io` (2) and `Stopped` (3).
     pub fn take_frames(&mut self, pages: &[Page], pinned: &[u32]) -> Result<(), Fault>
-        requires actable { AreActable self.old.limits (length (pages_now self.old.history)) pages.now }
+        requires actable { AreActable self.old.format (length (pages_now self.old.history)) pages.now }
         requires pinned { All (λ page. has_block pinned.now page.block ≡ true) pages.now }
         ensures quiet { IsSameButWritten D.Device self.old self.new }
         ensures frames { GetFrames D.Device pinned.now (map (λ page. page.block) pages.now)

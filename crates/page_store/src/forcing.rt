@@ -84,9 +84,9 @@ impl<D: Device> LoggedPages<D> {
         ensures same { SameButDevice D.Device self.old self.new }
         ensures written { OnOk result ((page : Page)
             → held_page self.old.pool block ≡ Some page
-            → Has (place self.old.limits block) (page_bytes page)
+            → Has (place self.old.format block) (page_bytes page)
             (D.trace self.new.device).now.seen) }
-        ensures only { ChangesOnly (place self.old.limits block) 4096
+        ensures only { ChangesOnly (place self.old.format block) 4096
             (D.trace self.old.device).now (D.trace self.new.device).now }
         ensures failures { CountsFailures result
             (D.failures self.old.device) (D.failures self.new.device) }
@@ -95,7 +95,7 @@ impl<D: Device> LoggedPages<D> {
         match self.pool.find(block) {
             Some(at) => {
                 let page = self.pool.page(at);
-                write_page(&mut self.device, self.limits, block, page)
+                write_page(&mut self.device, self.format, block, page)
             }
             None => Err(Fault::Io),
         }
@@ -150,7 +150,7 @@ impl<D: Device> LoggedPages<D> {
         requires at { slice_get (changed_of self.old.pool) place ≡ Some block }
         requires durable { act_of self.old.pool block ≤ self.old.durable }
         requires home { (page : Page) → held_page self.old.pool block ≡ Some page
-            → Has (Rattle.page_codec.specs.Places.place self.old.limits block) (page_bytes page)
+            → Has (Rattle.page_codec.specs.Places.place self.old.format block) (page_bytes page)
             (D.trace self.old.device).now.seen }
         ensures quiet { IsSameButWritten D.Device self.old self.new }
         ensures written { IsWritten self.old.pool self.new.pool place }
@@ -196,7 +196,7 @@ impl<D: Device> LoggedPages<D> {
         ensures same { SameButDevice D.Device self.old self.new }
         ensures few { written.new ≤ length (changed_of self.old.pool) }
         ensures all { OnOk result (written.new ≡ length (changed_of self.old.pool)) }
-        ensures home { AreWrittenUpTo self.old.limits self.old.pool written.new
+        ensures home { AreWrittenUpTo self.old.format self.old.pool written.new
             (D.trace self.new.device).now }
         ensures failures { CountsFailures result
             (D.failures self.old.device) (D.failures self.new.device) }
@@ -217,7 +217,7 @@ impl<D: Device> LoggedPages<D> {
     fn note_first_written(&mut self, count: usize)
         requires few { count ≤ length (changed_of self.old.pool) }
         requires durable { self.old.durable ≡ self.old.acts }
-        requires home { AreWrittenUpTo self.old.limits self.old.pool count
+        requires home { AreWrittenUpTo self.old.format self.old.pool count
             (D.trace self.old.device).now }
         ensures steps { Follows (held_of D.Device self.old) (held_of D.Device self.new) }
         ensures pages { SamePages D.Device self.old self.new }
@@ -280,7 +280,7 @@ impl<D: Device> LoggedPages<D> {
         ensures pages { SamePages D.Device self.old self.new }
         ensures pool { self.new.pool ≡ self.old.pool }
         ensures room { OnOk result
-            (LogIsClosed self.old.limits (backing_of (held_of D.Device self.new))) }
+            (LogIsClosed self.old.format (backing_of (held_of D.Device self.new))) }
         ensures refused { OnErr result (SameRoom D.Device self.old self.new) }
         ensures durable { self.new.durable ≡ self.old.durable }
         ensures waiting { waiting_blocks self.new.log ≡ waiting_blocks self.old.log }
@@ -304,7 +304,7 @@ impl<D: Device> LoggedPages<D> {
         ensures durable { OnOk result (self.new.durable ≡ self.old.acts) }
         ensures alive { OnOk result (is_stopped self.new.log ≡ false) }
         ensures room { OnOk result
-            (LogIsClosed self.old.limits (backing_of (held_of D.Device self.new))) }
+            (LogIsClosed self.old.format (backing_of (held_of D.Device self.new))) }
         ensures rest { IsRestOf (changed_of self.new.pool) (changed_of self.old.pool) }
         ensures clean { OnOk result (changed_of self.new.pool ≡ []) }
         ensures waits { WaitsOn self.old.acts (backing_of (held_of D.Device self.old))

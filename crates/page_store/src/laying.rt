@@ -2,7 +2,7 @@
 
 ghost use Rattle.std.specs.Prelude.{◌≡◌, ◌≤◌, ◌<◌, ℕ, suc, [], slice_index, OnOk, OnErr, is_err, length};
 ghost use Rattle.page_codec.specs.Places.{log_end};
-ghost use Rattle.redo_log.specs.Kept.{limits_of, is_stopped, waiting_count, waiting_blocks, waiting_images, laid_count, groups_end, end_with, IsLaid, WaitsAlike, SameLog, KeepsActions, ForcesAll, RestartsThroughout, ChangesItsRange, IoOrStopped};
+ghost use Rattle.redo_log.specs.Kept.{format_of, is_stopped, waiting_count, waiting_blocks, waiting_images, laid_count, groups_end, end_with, IsLaid, WaitsAlike, SameLog, KeepsActions, ForcesAll, RestartsThroughout, ChangesItsRange, IoOrStopped};
 ghost use Rattle.page_store.specs.Writing.{HoldsWaiting};
 
 use buffer_pool::Pool;
@@ -40,7 +40,7 @@ fn lay_waiting(log: &mut Log, pool: &Pool)
 
 /// Forces the log, given that the pool holds what waits in it. Refused with `Io` and `Stopped`.
 pub(crate) fn force<D: Device>(log: &mut Log, pool: &Pool, device: &mut D) -> Result<u64, Fault>
-    requires range { log_end (limits_of log.old) ≤ length (D.trace device.old).now.seen }
+    requires range { log_end (format_of log.old) ≤ length (D.trace device.old).now.seen }
     requires held { HoldsWaiting (waiting_images log.old) 0 pool.now }
     ensures keeps { OnOk result
         (ForcesAll log.old (D.trace device.old).now log.new (D.trace device.new).now) }
@@ -53,7 +53,7 @@ pub(crate) fn force<D: Device>(log: &mut Log, pool: &Pool, device: &mut D) -> Re
     ensures refused { OnErr result ((n : ℕ) → end_with log.new n ≡ end_with log.old n) }
     ensures same { SameLog log.old log.new }
     ensures stopped { is_stopped log.new ≡ is_err result }
-    ensures outside { ChangesItsRange (limits_of log.old)
+    ensures outside { ChangesItsRange (format_of log.old)
         (D.trace device.old) (D.trace device.new) }
     ensures len { length (D.trace device.new).now.seen ≡ length (D.trace device.old).now.seen }
     ensures honest { D.is_honest device.new ≡ D.is_honest device.old }
@@ -71,7 +71,7 @@ pub(crate) fn advance<D: Device>(
     pool: &Pool,
     device: &mut D,
 ) -> Result<Advance, Fault>
-    requires range { log_end (limits_of log.old) ≤ length (D.trace device.old).now.seen }
+    requires range { log_end (format_of log.old) ≤ length (D.trace device.old).now.seen }
     requires held { HoldsWaiting (waiting_images log.old) 0 pool.now }
     ensures keeps { OnOk result
         (KeepsActions log.old (D.trace device.old).now log.new (D.trace device.new).now) }
@@ -81,7 +81,7 @@ pub(crate) fn advance<D: Device>(
     ensures end { groups_end log.new ≡ groups_end log.old }
     ensures same { SameLog log.old log.new }
     ensures stopped { is_stopped log.new ≡ is_err result }
-    ensures outside { ChangesItsRange (limits_of log.old)
+    ensures outside { ChangesItsRange (format_of log.old)
         (D.trace device.old) (D.trace device.new) }
     ensures len { length (D.trace device.new).now.seen ≡ length (D.trace device.old).now.seen }
     ensures honest { D.is_honest device.new ≡ D.is_honest device.old }

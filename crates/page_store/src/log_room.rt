@@ -18,7 +18,7 @@ use std::slice;
 /// The pages of an index as they were read, in order, and the room for its frames. None of them is held yet.
 #[derive(Drop)]
 pub struct StoreRoom {
-    pub(crate) limits: Format,
+    pub(crate) format: Format,
     pub(crate) pool: Pool,
     pub(crate) used: u32,
     pub(crate) numbers: DeletionNumbers,
@@ -26,45 +26,45 @@ pub struct StoreRoom {
     pub(crate) history: History,
     /// Where a page is decoded before a frame gets it.
     pub(crate) decoded: Box<Page>,
-    ghost allowed: { AreLimits limits },
-    ghost stored: { AreStored limits 0 history.start } by { AreStored-prop limits 0 history.start },
+    ghost allowed: { AreLimits format },
+    ghost stored: { AreStored format 0 history.start } by { AreStored-prop format 0 history.start },
     ghost used_is: { used ≡ length history.start },
-    ghost few: { used ≤ limits.pages },
+    ghost few: { used ≤ format.pages },
     ghost begun: { length history.acts ≡ 0 },
-    ghost reach: { reach_of pool ≡ limits.pages },
+    ghost reach: { reach_of pool ≡ format.pages },
     ghost empty: { pool_count pool ≡ 0 },
     ghost many_counts: { length numbers.counted ≡ length history.start },
     ghost waiting: { AreWaiting numbers.waiting history.start numbers.counted },
-    ghost count_room: { limits.pages ≤ length numbers.waiting },
+    ghost count_room: { format.pages ≤ length numbers.waiting },
 }
 
 impl StoreRoom {
     ghost use Rattle.std.specs.Prelude.{◌⊎◌, ◌∷◌, ◌++◌, [], IfOk, OnOk, OnErr, IfErr};
     ghost use Rattle.page_action.specs.Stored.{IsStored};
-    ghost use Rattle.page_store.specs.Rooms.{limits_of_room, frames_of_room, pages_of_room, counts_of_room};
+    ghost use Rattle.page_store.specs.Rooms.{format_of_room, frames_of_room, pages_of_room, counts_of_room};
 
     /// The room for an index of these limits, of which `frames` pages are held at once, with no page in use.
     /// Refused with `BadLimits` (18), and with `NoMemory` (1) if the room cannot be had.
-    pub fn new(alloc: Global, limits: Format, frames: u32) -> Result<StoreRoom, Fault>
-        ensures limits { IfOk result (λ room. limits_of_room room ≡ limits) }
+    pub fn new(alloc: Global, format: Format, frames: u32) -> Result<StoreRoom, Fault>
+        ensures format { IfOk result (λ room. format_of_room room ≡ format) }
         ensures frames { IfOk result (λ room. frames_of_room room ≡ frames) }
         ensures empty { IfOk result (λ room. pages_of_room room ≡ []) }
         ensures counts { IfOk result (λ room. counts_of_room room ≡ []) }
-        ensures allowed { OnOk result (AreLimits limits) }
+        ensures allowed { OnOk result (AreLimits format) }
         ensures cause { IfErr result
-            (λ e. (e ≡ Fault.NoMemory) ⊎ ((e ≡ Fault.BadLimits) × (AreLimits limits → ⊥))) }
+            (λ e. (e ≡ Fault.NoMemory) ⊎ ((e ≡ Fault.BadLimits) × (AreLimits format → ⊥))) }
     {
-        if !limits.are_valid() {
+        if !format.are_valid() {
             return Err(Fault::BadLimits);
         }
-        let pool = Pool::new(alloc, frames, limits.pages)?;
-        let numbers = DeletionNumbers::new(alloc, limits.pages)?;
+        let pool = Pool::new(alloc, frames, format.pages)?;
+        let numbers = DeletionNumbers::new(alloc, format.pages)?;
         let calls = CallRoom::new(alloc)?;
         let Ok(decoded) = Box::new(alloc, Page::blank()) else {
             return Err(Fault::NoMemory);
         };
         Ok(StoreRoom {
-            limits,
+            format,
             pool,
             used: 0,
             numbers,
@@ -78,26 +78,26 @@ impl StoreRoom {
     /// (8) if no block is unused; with `PageDamaged` (17) for that block if the page is not one of the
     /// format, is not that block's, or has more items than the limits allow.
     pub fn add(&mut self, page: &Page) -> Result<(), Fault>
-        ensures limits { limits_of_room self.new ≡ limits_of_room self.old }
+        ensures format { format_of_room self.new ≡ format_of_room self.old }
         ensures frames { frames_of_room self.new ≡ frames_of_room self.old }
         ensures done { OnOk result
             (pages_of_room self.new ≡ pages_of_room self.old ++ page.now ∷ []) }
         ensures stored { OnOk result
-            (IsStored (limits_of_room self.old) (length (pages_of_room self.old)) page.now) }
+            (IsStored (format_of_room self.old) (length (pages_of_room self.old)) page.now) }
         // No deletion number counts of a page that was read.
         ensures counts { OnOk result (counts_of_room self.new ≡ counts_of_room self.old ++ 0 ∷ []) }
         ensures refused { OnErr result (pages_of_room self.new ≡ pages_of_room self.old) }
         ensures cause { IfErr result (λ e.
             ((e ≡ Fault.IndexFull)
-            × ((limits_of_room self.old).pages ≤ length (pages_of_room self.old)))
+            × ((format_of_room self.old).pages ≤ length (pages_of_room self.old)))
             ⊎ ((e ≡ Fault.PageDamaged (length (pages_of_room self.old)))
-            × (IsStored (limits_of_room self.old) (length (pages_of_room self.old)) page.now → ⊥))) }
+            × (IsStored (format_of_room self.old) (length (pages_of_room self.old)) page.now → ⊥))) }
     {
         let block = self.used;
-        if block >= self.limits.pages {
+        if block >= self.format.pages {
             return Err(Fault::IndexFull);
         }
-        if page.block != block || !is_storable(page, self.limits) {
+        if page.block != block || !is_storable(page, self.format) {
             return Err(Fault::PageDamaged(block));
         }
         self.numbers.add(page.state);

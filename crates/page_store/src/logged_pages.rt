@@ -7,7 +7,7 @@ ghost use Rattle.page_codec.specs.Places.{place};
 ghost use Rattle.index_model.specs.Limits.{AreLimits};
 ghost use Rattle.page_action.specs.Stored.{AreStored};
 ghost use Rattle.page_action.specs.Props.{AreStored-prop};
-ghost use Rattle.redo_log.specs.Kept.{limits_of, is_stopped, actions_of, waiting_count, waiting_images, end_with};
+ghost use Rattle.redo_log.specs.Kept.{format_of, is_stopped, actions_of, waiting_count, waiting_images, end_with};
 ghost use Rattle.page_store.specs.Histories.{pages_now};
 ghost use Rattle.page_store.specs.Holding.{HoldsPages-prop, HoldsWaiting-prop};
 ghost use Rattle.page_store.specs.Writing.{HoldsPages, HoldsWaiting};
@@ -24,7 +24,7 @@ use redo_log::Log;
 /// device below. The room for all was made with it.
 #[derive(Drop)]
 pub(crate) struct LoggedPages<D: Device> {
-    pub(crate) limits: Format,
+    pub(crate) format: Format,
     pub(crate) device: D,
     pub(crate) log: Log,
     pub(crate) pool: Pool,
@@ -39,21 +39,21 @@ pub(crate) struct LoggedPages<D: Device> {
     pub(crate) history: History,
     /// Where a page is decoded before a frame gets it. Between calls it has no meaning.
     pub(crate) decoded: Box<Page>,
-    ghost allowed: { AreLimits limits },
-    ghost log_limits: { limits_of log ≡ limits } by { Coded-set limits-code (limits_of log) limits },
-    ghost sized: { place limits limits.pages ≤ length (D.trace device).now.seen },
-    ghost stored: { AreStored limits 0 (pages_now history) } by { AreStored-prop limits 0 (pages_now history) },
+    ghost allowed: { AreLimits format },
+    ghost log_format: { format_of log ≡ format } by { Coded-set format-code (format_of log) format },
+    ghost sized: { place format format.pages ≤ length (D.trace device).now.seen },
+    ghost stored: { AreStored format 0 (pages_now history) } by { AreStored-prop format 0 (pages_now history) },
     ghost used_is: { used ≡ length (pages_now history) },
-    ghost few: { used ≤ limits.pages },
-    ghost reach: { reach_of pool ≡ limits.pages },
-    ghost holds: { HoldsPages limits (pages_now history) acts pool (D.is_honest device)
-        (D.trace device).now } by { HoldsPages-prop limits (pages_now history) acts pool (D.is_honest device)
+    ghost few: { used ≤ format.pages },
+    ghost reach: { reach_of pool ≡ format.pages },
+    ghost holds: { HoldsPages format (pages_now history) acts pool (D.is_honest device)
+        (D.trace device).now } by { HoldsPages-prop format (pages_now history) acts pool (D.is_honest device)
             (D.trace device).now },
     ghost waits: { HoldsWaiting (waiting_images log) durable pool } by { HoldsWaiting-prop (waiting_images log) durable pool },
     ghost counted: { acts ≡ actions_of log },
     ghost not_ahead: { durable ≤ acts },
     ghost forced: { is_stopped log ≡ false → durable ≡ acts → waiting_count log ≡ 0 },
-    ghost fits: { is_stopped log ≡ false → 0 < room → end_with log room ≤ limits.log_bytes },
+    ghost fits: { is_stopped log ≡ false → 0 < room → end_with log room ≤ format.log_bytes },
     ghost kept_promise: { promised ≤ suc room },
     ghost new_promise: { durable < acts → promised ≡ room },
     ghost promise: { room ≤ promised },
@@ -77,7 +77,7 @@ impl<D: Device> LoggedPages<D> {
     /// The pages that `history` began with, over a device and a log that was just opened and closed. The pool
     /// holds none of them yet.
     pub fn new(
-        limits: Format,
+        format: Format,
         device: D,
         log: Log,
         pool: Pool,
@@ -85,20 +85,20 @@ impl<D: Device> LoggedPages<D> {
         history: History,
         decoded: Box<Page>,
     ) -> LoggedPages<D>
-        requires allowed { AreLimits limits }
-        requires log_limits { limits_of log ≡ limits }
+        requires allowed { AreLimits format }
+        requires log_format { format_of log ≡ format }
         requires fresh { actions_of log ≡ 0 }
         requires idle { waiting_count log ≡ 0 }
-        requires sized { place limits limits.pages ≤ length (D.trace device).now.seen }
-        requires stored { AreStored limits 0 history.start }
+        requires sized { place format format.pages ≤ length (D.trace device).now.seen }
+        requires stored { AreStored format 0 history.start }
         requires begun { length history.acts ≡ 0 }
         requires used { used ≡ length history.start }
-        requires few { used ≤ limits.pages }
-        requires reach { reach_of pool ≡ limits.pages }
+        requires few { used ≤ format.pages }
+        requires reach { reach_of pool ≡ format.pages }
         requires empty { pool_count pool ≡ 0 }
         requires seen { D.is_honest device ≡ true
-            → AreSeen limits history.start (D.trace device).now }
-        ensures limits { result.limits ≡ limits }
+            → AreSeen format history.start (D.trace device).now }
+        ensures format { result.format ≡ format }
         ensures device { result.device ≡ device }
         ensures log { result.log ≡ log }
         ensures pool { result.pool ≡ pool }
@@ -109,12 +109,12 @@ impl<D: Device> LoggedPages<D> {
         ensures own { StandsOpened log (D.trace device).now history.start
             → IsOwn (held_of D.Device result) }
         ensures closed { groups_end log ≡ 0
-            → LogIsClosed limits (backing_of (held_of D.Device result)) }
+            → LogIsClosed format (backing_of (held_of D.Device result)) }
     {
         pool.law();
         let room = log.room();
         LoggedPages {
-            limits,
+            format,
             device,
             log,
             pool,
@@ -154,7 +154,7 @@ impl<D: Device> LoggedPages<D> {
         requires has { IsSome (frame_of self.now.pool block) }
         ensures page { D.is_honest self.now.device ≡ true
             → slice_get (pages_now self.now.history) block ≡ Some result.now }
-        ensures stored { IsStored self.now.limits block result.now }
+        ensures stored { IsStored self.now.format block result.now }
     {
         self.pool.law();
         match self.pool.find(block) {
@@ -167,10 +167,10 @@ impl<D: Device> LoggedPages<D> {
     /// the number of the act. Refused with `Stopped` (3) and `LogFull` (9).
     pub fn act(&mut self, pages: &[Page]) -> Result<u64, Fault>
         requires some { 1 ≤ length pages.now }
-        requires actable { AreActable self.old.limits (length (pages_now self.old.history)) pages.now }
+        requires actable { AreActable self.old.format (length (pages_now self.old.history)) pages.now }
         requires held { All (λ page. IsSome (frame_of self.old.pool page.block)) pages.now }
         ensures steps { Follows (held_of D.Device self.old) (held_of D.Device self.new) }
-        ensures limits { self.new.limits ≡ self.old.limits }
+        ensures format { self.new.format ≡ self.old.format }
         ensures history { OnOk result (self.new.history ≡ with_act pages.now self.old.history) }
         ensures pages { OnOk result (pages_now self.new.history
             ≡ with_pages (pages_now self.old.history) pages.now) }

@@ -24,7 +24,7 @@ pub struct Store<D: Device> {
     calls: CallTable,
     ghost counts: { length calls.counted ≡ length (pages_now held.history) },
     ghost waiting: { AreWaiting calls.waiting (pages_now held.history) calls.counted },
-    ghost count_room: { held.limits.pages ≤ length calls.waiting },
+    ghost count_room: { held.format.pages ≤ length calls.waiting },
 }
 
 impl<D: Device> Store<D> {
@@ -38,7 +38,7 @@ impl<D: Device> Store<D> {
     ghost use Rattle.page_action.specs.Stored.{AreActable};
     ghost use Rattle.device.specs.Disk.{MayCrashTo};
     ghost use Rattle.device.specs.Moments.{MayHaveCrashedTo};
-    ghost use Rattle.redo_log.specs.Kept.{limits_of, actions_of, waiting_count, groups_end, is_stopped};
+    ghost use Rattle.redo_log.specs.Kept.{format_of, actions_of, waiting_count, groups_end, is_stopped};
     ghost use Rattle.page_action.specs.Room.{LogIsClosed};
     ghost use Rattle.page_store.specs.Logged.{Held, IsOwn, StandsOpened, backing_of};
     ghost use Rattle.page_store.specs.Histories.{pages_after};
@@ -46,7 +46,7 @@ impl<D: Device> Store<D> {
     ghost use Rattle.page_codec.specs.Places.{place};
     ghost use Rattle.page_store.specs.Restart.{RestartsToPart};
     ghost use Rattle.page_store.specs.Quiet.{IsAdvanced, IsSameButWritten};
-    ghost use Rattle.page_store.specs.Rooms.{limits_of_room, frames_of_room, pages_of_room, counts_of_room};
+    ghost use Rattle.page_store.specs.Rooms.{format_of_room, frames_of_room, pages_of_room, counts_of_room};
     ghost use Rattle.page_store.specs.Stores.{state_of, held_by, device_of, store_history, opened_state, IsOwnStore};
     ghost use Rattle.page_store.specs.Taking.{GetFrames, TakingFails};
     ghost use Rattle.page_store.specs.Writing.{AreSeen};
@@ -54,28 +54,28 @@ impl<D: Device> Store<D> {
     /// A store of the pages that were read from this device, whose log was just opened and closed.
     /// `last_cycle` is the last cycle number that was given.
     pub fn new(device: D, log: Log, room: StoreRoom, last_cycle: u32) -> Store<D>
-        requires limits { limits_of log ≡ limits_of_room room }
+        requires format { format_of log ≡ format_of_room room }
         requires fresh { actions_of log ≡ 0 }
         requires idle { waiting_count log ≡ 0 }
-        requires sized { place (limits_of_room room) (limits_of_room room).pages
+        requires sized { place (format_of_room room) (format_of_room room).pages
             ≤ length (D.trace device).now.seen }
         // The pages are those that stand on the device, if it kept its model.
         requires seen { D.is_honest device ≡ true
-            → AreSeen (limits_of_room room) (pages_of_room room) (D.trace device).now }
+            → AreSeen (format_of_room room) (pages_of_room room) (D.trace device).now }
         ensures state { state_of D.Device result
-            ≡ opened_state (limits_of_room room) (frames_of_room room) (pages_of_room room)
+            ≡ opened_state (format_of_room room) (frames_of_room room) (pages_of_room room)
             (counts_of_room room) last_cycle }
         ensures device { device_of D.Device result ≡ device }
         ensures durable { (backing_of (held_by D.Device result)).durable ≡ 0 }
         ensures stopped { (backing_of (held_by D.Device result)).stopped ≡ is_stopped log }
         ensures room { groups_end log ≡ 0
-            → LogIsClosed (limits_of_room room) (backing_of (held_by D.Device result)) }
+            → LogIsClosed (format_of_room room) (backing_of (held_by D.Device result)) }
         ensures own { StandsOpened log (D.trace device).now (pages_of_room room)
             → IsOwnStore D.Device result }
     {
         Store {
             held: LoggedPages::new(
-                room.limits,
+                room.format,
                 device,
                 log,
                 room.pool,
@@ -123,7 +123,7 @@ impl<D: Device> Store<D> {
         ensures restarts { (first : Held) (image : List ℕ) → IsOwn first
             → Follows first (held_by D.Device self.now)
             → MayHaveCrashedTo first.trace (held_by D.Device self.now).trace image
-            → RestartsToPart (state_of D.Device self.now).limits
+            → RestartsToPart (state_of D.Device self.now).format
             (store_history D.Device self.now) first.durable image }
         ensures pages { (first : Held) → IsOwn first → Follows first (held_by D.Device self.now)
             → pages_now first.history ≡ pages_after (store_history D.Device self.now) first.acts }
@@ -138,7 +138,7 @@ impl<D: Device> Store<D> {
     // `Stopped`.
     fn take_frames(&mut self, pages: &[Page]) -> Result<(), Fault>
         requires few { length pages.now ≤ 4 }
-        requires actable { AreActable self.old.held.limits
+        requires actable { AreActable self.old.held.format
             (length (pages_now self.old.held.history)) pages.now }
         ensures quiet { IsSameButWritten D.Device self.old.held self.new.held }
         ensures frames { GetFrames D.Device
@@ -231,12 +231,12 @@ impl<D: Device> PageStore for Store<D> {
             return Err(fault);
         }
         let number = self.held.act(pages)?;
-        self.calls.note(self.held.limits, pages);
+        self.calls.note(self.held.format, pages);
         Ok(number)
     }
 
     fn fresh(&self) -> Result<u32, Fault> {
-        self.calls.fresh(self.held.used, self.held.limits)
+        self.calls.fresh(self.held.used, self.held.format)
     }
 
     fn ask(&self, session: Session, block: u32, mode: Mode) -> Result<(), Fault> {
@@ -307,11 +307,11 @@ impl<D: Device> PageStore for Store<D> {
     }
 
     fn format(&self) -> Format {
-        self.held.limits
+        self.held.format
     }
 
     fn limits(&self) -> Limits {
-        self.held.limits.limits()
+        self.held.format.limits()
     }
 
     fn free_for(&self, session: Session, block: u32) -> Option<bool> {

@@ -12,63 +12,63 @@ pub on_ok : {T E : Type 0} (P Q : Type 0) (r : Result T E) → (P → Q) → OnO
 on_ok P Q (Ok x) f p = f p
 on_ok P Q (Err e) f p = p
 
-apart_each : (limits : Format) (from to block a k : ℕ) → from ≤ block → block < to → (place limits to ≤ a) ⊎ (a + k ≤ place limits from)
-    → (place limits block + length (replicate {A = ℕ} 4096 0) ≤ a) ⊎ (a + k ≤ place limits block)
-apart_each limits from to block a k low high (inl e) = let long : length (replicate {A = ℕ} 4096 0) ≡ 4096 = length-replicate {A = ℕ} 4096 0 in inl (omega (arith, long))
-apart_each limits from to block a k low high (inr e) = inr (omega arith)
+apart_each : (format : Format) (from to block a k : ℕ) → from ≤ block → block < to → (place format to ≤ a) ⊎ (a + k ≤ place format from)
+    → (place format block + length (replicate {A = ℕ} 4096 0) ≤ a) ⊎ (a + k ≤ place format block)
+apart_each format from to block a k low high (inl e) = let long : length (replicate {A = ℕ} 4096 0) ≡ 4096 = length-replicate {A = ℕ} 4096 0 in inl (omega (arith, long))
+apart_each format from to block a k low high (inr e) = inr (omega arith)
 
 -- a block that lies outside of what was written stays
-pub zeros_stay : (limits : Format) (from to a k : ℕ) (old new : DiskMoment) → ChangesOnly a k old new → (place limits to ≤ a)
-    ⊎ (a + k ≤ place limits from) → AreZero limits from to old.seen → AreZero limits from to new.seen
-zeros_stay limits from to a k old new only apart zero = λ block low high.
-    has_kept a k (place limits block) (replicate 4096 0) old new only
-    (apart_each limits from to block a k low high apart)
+pub zeros_stay : (format : Format) (from to a k : ℕ) (old new : DiskMoment) → ChangesOnly a k old new → (place format to ≤ a)
+    ⊎ (a + k ≤ place format from) → AreZero format from to old.seen → AreZero format from to new.seen
+zeros_stay format from to a k old new only apart zero = λ block low high.
+    has_kept a k (place format block) (replicate 4096 0) old new only
+    (apart_each format from to block a k low high apart)
     (zero block low high)
 
 -- the pages stand, once each was written
-pub pages_made : (limits : Format) (meta leaf : Page) (a b c : DiskMoment) → IsFirstMeta meta → IsFirstLeaf leaf → length (page_bytes meta) ≡ 4096 → AreZero limits 2 limits.pages a.seen
-    → Has (place limits meta.block) (page_bytes meta) b.seen → ChangesOnly (place limits meta.block) 4096 a b
-    → Has (place limits leaf.block) (page_bytes leaf) c.seen → ChangesOnly (place limits leaf.block) 4096 b c → HasPages limits c.seen
-pages_made limits meta leaf a b c is_meta is_leaf long zero has_meta only_meta has_leaf only_leaf =
-    let at0 : Has (place limits 0) (page_bytes meta) b.seen = subst (λ (n : ℕ). Has (place limits n) (page_bytes meta) b.seen) is_meta.block has_meta in
-    let only0 : ChangesOnly (place limits 0) 4096 a b = subst (λ (n : ℕ). ChangesOnly (place limits n) 4096 a b) is_meta.block only_meta in
-    let at1 : Has (place limits 1) (page_bytes leaf) c.seen = subst (λ (n : ℕ). Has (place limits n) (page_bytes leaf) c.seen) is_leaf.block has_leaf in
-    let only1 : ChangesOnly (place limits 1) 4096 b c = subst (λ (n : ℕ). ChangesOnly (place limits n) 4096 b c) is_leaf.block only_leaf in
-    let zero1 = zeros_stay limits 2 limits.pages (place limits 0) 4096 a b only0 (inr (omega arith)) zero in
+pub pages_made : (format : Format) (meta leaf : Page) (a b c : DiskMoment) → IsFirstMeta meta → IsFirstLeaf leaf → length (page_bytes meta) ≡ 4096 → AreZero format 2 format.pages a.seen
+    → Has (place format meta.block) (page_bytes meta) b.seen → ChangesOnly (place format meta.block) 4096 a b
+    → Has (place format leaf.block) (page_bytes leaf) c.seen → ChangesOnly (place format leaf.block) 4096 b c → HasPages format c.seen
+pages_made format meta leaf a b c is_meta is_leaf long zero has_meta only_meta has_leaf only_leaf =
+    let at0 : Has (place format 0) (page_bytes meta) b.seen = subst (λ (n : ℕ). Has (place format n) (page_bytes meta) b.seen) is_meta.block has_meta in
+    let only0 : ChangesOnly (place format 0) 4096 a b = subst (λ (n : ℕ). ChangesOnly (place format n) 4096 a b) is_meta.block only_meta in
+    let at1 : Has (place format 1) (page_bytes leaf) c.seen = subst (λ (n : ℕ). Has (place format n) (page_bytes leaf) c.seen) is_leaf.block has_leaf in
+    let only1 : ChangesOnly (place format 1) 4096 b c = subst (λ (n : ℕ). ChangesOnly (place format n) 4096 b c) is_leaf.block only_leaf in
+    let zero1 = zeros_stay format 2 format.pages (place format 0) 4096 a b only0 (inr (omega arith)) zero in
     record {
       meta = meta;
       is_meta = is_meta;
       leaf = leaf;
       is_leaf = is_leaf;
-      has_meta = has_kept (place limits 1) 4096 (place limits 0) (page_bytes meta) b c only1 (inl (omega (arith, long))) at0;
+      has_meta = has_kept (place format 1) 4096 (place format 0) (page_bytes meta) b c only1 (inl (omega (arith, long))) at0;
       has_leaf = at1;
-      unused = zeros_stay limits 2 limits.pages (place limits 1) 4096 b c only1 (inr (omega arith)) zero1;
+      unused = zeros_stay format 2 format.pages (place format 1) 4096 b c only1 (inr (omega arith)) zero1;
     }
 
 -- what was written, a sync makes stand
-pub body_made : {T E : Type 0} (limits : Format) (r : Result T E) (a b : Trace) (gate : DiskMoment) → Has 4096 (0 ∷ []) gate.seen
-    → ChangesOnly (place limits 0) (4096 * limits.pages) gate a.now → HasPages limits a.now.seen → 1 ≤ limits.log_bytes
-    → Syncs r a b → OnOk r (HasBody limits b.now)
-body_made limits (Ok x) a b gate has only pages log is =
-    subst (λ (t : Trace). HasBody limits t.now) (sym is)
+pub body_made : {T E : Type 0} (format : Format) (r : Result T E) (a b : Trace) (gate : DiskMoment) → Has 4096 (0 ∷ []) gate.seen
+    → ChangesOnly (place format 0) (4096 * format.pages) gate a.now → HasPages format a.now.seen → 1 ≤ format.log_bytes
+    → Syncs r a b → OnOk r (HasBody format b.now)
+body_made format (Ok x) a b gate has only pages log is =
+    subst (λ (t : Trace). HasBody format t.now) (sym is)
     record {
       pages = pages;
-      gate = synced_on 4096 (0 ∷ []) a.now (has_kept (place limits 0) (4096 * limits.pages) 4096 (0 ∷ []) gate a.now only (inl (omega arith)) has);
+      gate = synced_on 4096 (0 ∷ []) a.now (has_kept (place format 0) (4096 * format.pages) 4096 (0 ∷ []) gate a.now only (inl (omega arith)) has);
       firm = λ i low. refl;
     }
-body_made limits (Err e) a b gate has only pages log is = tt
+body_made format (Err e) a b gate has only pages log is = tt
 
 -- the pages stay if only the superblock is written
-pub body_stays : (limits : Format) (a b : DiskMoment) → ChangesOnly 0 4096 a b → HasBody limits a → HasBody limits b
-body_stays limits a b only body = record {
+pub body_stays : (format : Format) (a b : DiskMoment) → ChangesOnly 0 4096 a b → HasBody format a → HasBody format b
+body_stays format a b only body = record {
   pages = record {
     meta = body.pages.meta;
     is_meta = body.pages.is_meta;
     leaf = body.pages.leaf;
     is_leaf = body.pages.is_leaf;
-    has_meta = has_kept 0 4096 (place limits 0) (page_bytes body.pages.meta) a b only (inr (omega arith)) body.pages.has_meta;
-    has_leaf = has_kept 0 4096 (place limits 1) (page_bytes body.pages.leaf) a b only (inr (omega arith)) body.pages.has_leaf;
-    unused = zeros_stay limits 2 limits.pages 0 4096 a b only (inr (omega arith)) body.pages.unused;
+    has_meta = has_kept 0 4096 (place format 0) (page_bytes body.pages.meta) a b only (inr (omega arith)) body.pages.has_meta;
+    has_leaf = has_kept 0 4096 (place format 1) (page_bytes body.pages.leaf) a b only (inr (omega arith)) body.pages.has_leaf;
+    unused = zeros_stay format 2 format.pages 0 4096 a b only (inr (omega arith)) body.pages.unused;
   };
   gate = kept 0 4096 4096 (0 ∷ []) a b only (inr (omega arith)) body.gate;
   firm = λ i low. only.loose i (inr low) (body.firm i low);
@@ -122,28 +122,28 @@ no_magic m on image left is =
     absurd (omega (arith, first, zero))
 
 -- while an index is made
-module _ (limits : Format) (t u : Trace) (clearing : AtEachMoment (WritesFront (replicate 4096 0) t.now) t u) where
-  pub clearing_goes : AtEachMoment (IsMaking limits t.now) t u
+module _ (format : Format) (t u : Trace) (clearing : AtEachMoment (WritesFront (replicate 4096 0) t.now) t u) where
+  pub clearing_goes : AtEachMoment (IsMaking format t.now) t u
   clearing_goes = goes_weaker _ _ t u (λ m w. ⊎_elim (λ loose. inl (record { front = loose; only = w.only })) (λ on. inr (inl (no_magic m on))) w.either) clearing
 
   module _ (v : Trace) (n : ℕ) (cleared : OnDisk 0 (replicate 4096 0) u.now) (placing : AtEachMoment (ChangesOnly 4096 n u.now) u v) where
-    pub placing_goes : AtEachMoment (IsMaking limits t.now) t v
+    pub placing_goes : AtEachMoment (IsMaking format t.now) t v
     placing_goes = goes_on _ t u v clearing_goes
         (goes_weaker _ _ u v (λ m only. inr (inl (no_magic m (kept 4096 n 0 (replicate 4096 0) u.now m only (inl (omega (arith, length-replicate {A = ℕ} 4096 0))) cleared)))) placing)
 
-    pub finishing_goes : (w : Trace) (bytes : List ℕ) → bytes ≡ superblock limits → HasBody limits v.now → AtEachMoment (WritesFront bytes v.now) v w → AtEachMoment (IsMaking limits t.now) t w
+    pub finishing_goes : (w : Trace) (bytes : List ℕ) → bytes ≡ superblock format → HasBody format v.now → AtEachMoment (WritesFront bytes v.now) v w → AtEachMoment (IsMaking format t.now) t w
     finishing_goes w bytes is body finishing = goes_on _ t v w placing_goes
         (goes_weaker _ _ v w (λ m f. inr (inr (record {
-          body = body_stays limits v.now m f.only body;
+          body = body_stays format v.now m f.only body;
           either = ⊎_elim (λ loose. inl loose) (λ on. inr (subst (λ (l : List ℕ). OnDisk 0 l m) is on)) f.either;
         }))) finishing)
 
 -- the index is made, once its superblock stands
-pub fresh_made : {T E : Type 0} (limits : Format) (r : Result T E) (bytes : List ℕ) (t u : Trace) → bytes ≡ superblock limits → HasBody limits t.now
+pub fresh_made : {T E : Type 0} (format : Format) (r : Result T E) (bytes : List ℕ) (t u : Trace) → bytes ≡ superblock format → HasBody format t.now
     → AtEachMoment (WritesFront bytes t.now) t u → OnOk r (OnDisk 0 bytes u.now)
-    → OnOk r (IsEmptyIndex limits u.now)
-fresh_made limits (Ok x) bytes t u is body moments on = record {
+    → OnOk r (IsEmptyIndex format u.now)
+fresh_made format (Ok x) bytes t u is body moments on = record {
   superblock = subst (λ (l : List ℕ). OnDisk 0 l u.now) is on;
-  body = body_stays limits t.now u.now (only_now 0 4096 t u (goes_weaker _ _ t u (λ m w. w.only) moments)) body;
+  body = body_stays format t.now u.now (only_now 0 4096 t u (goes_weaker _ _ t u (λ m w. w.only) moments)) body;
 }
-fresh_made limits (Err e) bytes t u is body moments on = tt
+fresh_made format (Err e) bytes t u is body moments on = tt

@@ -9,7 +9,7 @@ fault_of bytes fault (inl begins) = inl begins.0
 fault_of bytes fault (inr magic) = after_magic magic.1
   where
     after_layout : {A B C : Type 0} → ((fault ≡ BadLimits) × A) ⊎ (B × (fault ≡ BadSuper) × C) → IsFrontFault fault
-    after_layout (inl limits) = inr (inr limits.0)
+    after_layout (inl format) = inr (inr format.0)
     after_layout (inr rest) = inl rest.1
 
     after_magic : {A B C D E : Type 0} → ((fault ≡ BadVersion) × A) ⊎ (B × (((fault ≡ BadLimits) × C) ⊎ (D × (fault ≡ BadSuper) × E))) → IsFrontFault fault
@@ -22,5 +22,5 @@ module _ (honest : Bool) (frames : ℕ) (file bytes : List ℕ) (are : AreFrames
   no_superblock fault why = inr (are, inr (long, fault_of bytes fault why, (λ h. inl (subst (λ (b : List ℕ). IsNoSuperblock b fault) (sym (read h)) why))))
 
   -- a device that is shorter than its superblock says
-  pub too_short : (limits : Format) → AreLimits limits → bytes ≡ superblock limits → length file < needed_length limits → IsFrontRefusal honest frames file BadSuper
-  too_short limits allowed found less = inr (are, inr (long, inl refl, (λ h. inr (refl, limits, allowed, read h ∙ found, less))))
+  pub too_short : (format : Format) → AreLimits format → bytes ≡ superblock format → length file < needed_length format → IsFrontRefusal honest frames file BadSuper
+  too_short format allowed found less = inr (are, inr (long, inl refl, (λ h. inr (refl, format, allowed, read h ∙ found, less))))

@@ -17,7 +17,7 @@ pub use Rattle.device.specs.Places.{ChangesOnly, Has, IsUntouched, OnDisk}
 pub use Rattle.page_codec.proofs.Laws.{length-page, one_page}
 pub use Rattle.page_codec.specs.Places.{needed_length, place}
 pub use Rattle.page_codec.specs.declared.page.Page.{Page}
-pub use Rattle.redo_log.specs.Kept.{ChangesItsRange, ForgetsForced, KeepsWhileUntouched, LogHolds, Restarts, RestartsOrEmpty, RestartsOrEmptyThroughout, WhatItKeepsRestarts, limits_of}
+pub use Rattle.redo_log.specs.Kept.{ChangesItsRange, ForgetsForced, KeepsWhileUntouched, LogHolds, Restarts, RestartsOrEmpty, RestartsOrEmptyThroughout, WhatItKeepsRestarts, format_of}
 pub use Rattle.redo_log.specs.Kept.{waiting_count}
 pub use Rattle.redo_log.specs.Reading.{HoldsLast, IsDamaged, IsOpened, Replays, kept_image}
 pub use Rattle.redo_log.specs.declared.log.Log.{Log}
@@ -27,7 +27,7 @@ pub use Rattle.page_action.specs.Stored.{AreStored, IsStored}
 pub use Rattle.page_store.proofs.Restarting.{length-superblock, past_of_none, superblock_kept}
 pub use Rattle.page_store.specs.Logged.{AreHome, StandsOpened}
 pub use Rattle.page_store.specs.Restart.{CrashesToPages, RestartsTo, StandsAtHome}
-pub use Rattle.page_store.specs.Rooms.{counts_of_room, frames_of_room, limits_of_room, pages_of_room}
+pub use Rattle.page_store.specs.Rooms.{counts_of_room, frames_of_room, format_of_room, pages_of_room}
 pub use Rattle.page_store.specs.Writing.{AreSeen}
 pub use Rattle.recovery.specs.Calls.{FailsWithIoOr, IsIoOr}
 pub use Rattle.recovery.specs.Fresh.{AreZero, CrashesToEmpty, CrashesToNoMagic, HasBody, HasPages, IsEmptyIndex, IsFirstLeaf, IsFirstMeta, IsMaking, WritesFront}

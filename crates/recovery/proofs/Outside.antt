@@ -33,51 +33,51 @@ sync_untouched at n r u v is = syncs_goes _ r u v is (synced_untouched at n u.no
 front_only : (bytes : List ℕ) (t u : Trace) → AtEachMoment (WritesFront bytes t.now) t u → AtEachMoment (ChangesOnly 0 4096 t.now) t u
 front_only bytes t u g = goes_weaker _ _ t u (λ m w. w.only) g
 
-pub front_inside : (limits : Format) (bytes : List ℕ) (t u : Trace) → AtEachMoment (WritesFront bytes t.now) t u → ChangesItsBytes limits t u
-front_inside limits bytes t u g = wider_goes 0 4096 0 (needed_length limits) t u (omega arith) (omega arith) (front_only bytes t u g)
+pub front_inside : (format : Format) (bytes : List ℕ) (t u : Trace) → AtEachMoment (WritesFront bytes t.now) t u → ChangesItsBytes format t u
+front_inside format bytes t u g = wider_goes 0 4096 0 (needed_length format) t u (omega arith) (omega arith) (front_only bytes t u g)
 
-pub front_keeps : (limits : Format) (bytes : List ℕ) (t u : Trace) → AtEachMoment (WritesFront bytes t.now) t u → SameLogBytes limits t u
-front_keeps limits bytes t u g = elsewhere_goes 0 4096 4097 (limits.log_bytes - 1) t u (inr (omega arith)) (front_only bytes t u g)
+pub front_keeps : (format : Format) (bytes : List ℕ) (t u : Trace) → AtEachMoment (WritesFront bytes t.now) t u → SameLogBytes format t u
+front_keeps format bytes t u g = elsewhere_goes 0 4096 4097 (format.log_bytes - 1) t u (inr (omega arith)) (front_only bytes t u g)
 
 -- the log and the pages are
-pub body_inside : (limits : Format) (t u : Trace) → ChangesAfterFront limits t u → ChangesItsBytes limits t u
-body_inside limits t u g = wider_goes 4096 (limits.log_bytes + 4096 * limits.pages) 0 (needed_length limits) t u (omega arith) (omega arith) g
+pub body_inside : (format : Format) (t u : Trace) → ChangesAfterFront format t u → ChangesItsBytes format t u
+body_inside format t u g = wider_goes 4096 (format.log_bytes + 4096 * format.pages) 0 (needed_length format) t u (omega arith) (omega arith) g
 
-pub inside_on : (limits : Format) (t u v : Trace) → ChangesItsBytes limits t u → ChangesItsBytes limits u v → ChangesItsBytes limits t v
-inside_on limits t u v first second = more_goes 0 (needed_length limits) 0 (needed_length limits) t u v (omega arith) (omega arith) first second
+pub inside_on : (format : Format) (t u v : Trace) → ChangesItsBytes format t u → ChangesItsBytes format u v → ChangesItsBytes format t v
+inside_on format t u v first second = more_goes 0 (needed_length format) 0 (needed_length format) t u v (omega arith) (omega arith) first second
 
-pub after_on : (limits : Format) (t u v : Trace) → ChangesAfterFront limits t u → ChangesAfterFront limits u v → ChangesAfterFront limits t v
-after_on limits t u v first second =
-    more_goes 4096 (limits.log_bytes + 4096 * limits.pages) 4096 (limits.log_bytes + 4096 * limits.pages) t u v (omega arith) (omega arith) first second
+pub after_on : (format : Format) (t u v : Trace) → ChangesAfterFront format t u → ChangesAfterFront format u v → ChangesAfterFront format t v
+after_on format t u v first second =
+    more_goes 4096 (format.log_bytes + 4096 * format.pages) 4096 (format.log_bytes + 4096 * format.pages) t u v (omega arith) (omega arith) first second
 
-pub gate_keeps : (limits : Format) (t u : Trace) → AtEachMoment (ChangesOnly 4096 1 t.now) t u → SameLogBytes limits t u
-gate_keeps limits t u g = elsewhere_goes 4096 1 4097 (limits.log_bytes - 1) t u (inr (omega arith)) g
+pub gate_keeps : (format : Format) (t u : Trace) → AtEachMoment (ChangesOnly 4096 1 t.now) t u → SameLogBytes format t u
+gate_keeps format t u g = elsewhere_goes 4096 1 4097 (format.log_bytes - 1) t u (inr (omega arith)) g
 
-pub pages_keep : (limits : Format) (t u : Trace) → 1 ≤ limits.log_bytes → AtEachMoment (ChangesOnly (place limits 0) (4096 * limits.pages) t.now) t u → SameLogBytes limits t u
-pages_keep limits t u some g = elsewhere_goes (place limits 0) (4096 * limits.pages) 4097 (limits.log_bytes - 1) t u (inl (omega arith)) g
+pub pages_keep : (format : Format) (t u : Trace) → 1 ≤ format.log_bytes → AtEachMoment (ChangesOnly (place format 0) (4096 * format.pages) t.now) t u → SameLogBytes format t u
+pages_keep format t u some g = elsewhere_goes (place format 0) (4096 * format.pages) 4097 (format.log_bytes - 1) t u (inl (omega arith)) g
 
 -- images are brought home, and the log is closed
-pub named_inside : (limits : Format) (found : Replayed) (t u : Trace) → AtEachMoment (ChangesNamed limits found t.now) t u → ChangesAfterFront limits t u
-named_inside limits found t u g =
-    wider_goes (place limits 0) (4096 * limits.pages) 4096 (limits.log_bytes + 4096 * limits.pages) t u (omega arith) (omega arith) (goes_weaker _ _ t u (λ m f. f.only) g)
+pub named_inside : (format : Format) (found : Replayed) (t u : Trace) → AtEachMoment (ChangesNamed format found t.now) t u → ChangesAfterFront format t u
+named_inside format found t u g =
+    wider_goes (place format 0) (4096 * format.pages) 4096 (format.log_bytes + 4096 * format.pages) t u (omega arith) (omega arith) (goes_weaker _ _ t u (λ m f. f.only) g)
 
-pub log_inside : (limits : Format) (t u : Trace) → AtEachMoment (ChangesOnly 4096 limits.log_bytes t.now) t u → ChangesAfterFront limits t u
-log_inside limits t u g = wider_goes 4096 limits.log_bytes 4096 (limits.log_bytes + 4096 * limits.pages) t u (omega arith) (omega arith) g
+pub log_inside : (format : Format) (t u : Trace) → AtEachMoment (ChangesOnly 4096 format.log_bytes t.now) t u → ChangesAfterFront format t u
+log_inside format t u g = wider_goes 4096 format.log_bytes 4096 (format.log_bytes + 4096 * format.pages) t u (omega arith) (omega arith) g
 
-pub same_inside : (limits : Format) (t u : Trace) → u ≡ t → ChangesAfterFront limits t u
-same_inside limits t u is = record { since = []; is = ap (λ (x : Trace). x.now ∷ x.past) is; each = tt }
+pub same_inside : (format : Format) (t u : Trace) → u ≡ t → ChangesAfterFront format t u
+same_inside format t u is = record { since = []; is = ap (λ (x : Trace). x.now ∷ x.past) is; each = tt }
 
-pub sync_inside : {T E : Type 0} (limits : Format) (r : Result T E) (t u : Trace) → Syncs r t u → ChangesAfterFront limits t u
-sync_inside limits r t u is = synced_goes 4096 (limits.log_bytes + 4096 * limits.pages) r t t u (same_inside limits t t refl) is
+pub sync_inside : {T E : Type 0} (format : Format) (r : Result T E) (t u : Trace) → Syncs r t u → ChangesAfterFront format t u
+sync_inside format r t u is = synced_goes 4096 (format.log_bytes + 4096 * format.pages) r t t u (same_inside format t t refl) is
 
 -- the index whose superblock was read
-pub one_index : (limits : Format) (honest : Bool) (t u v : Trace) → AreLimits limits → needed_length limits ≤ length t.now.seen
-    → (IsTrue honest → IsFront limits t.now.seen) → u ≡ t → ChangesAfterFront limits u v
+pub one_index : (format : Format) (honest : Bool) (t u v : Trace) → AreLimits format → needed_length format ≤ length t.now.seen
+    → (IsTrue honest → IsFront format t.now.seen) → u ≡ t → ChangesAfterFront format u v
     → ChangesOneIndex honest t v
-one_index limits honest t u v allowed long front same only = record {
-  limits = limits;
+one_index format honest t u v allowed long front same only = record {
+  format = format;
   allowed = allowed;
   long = long;
   front = front;
-  only = subst (λ (x : Trace). ChangesAfterFront limits x v) same only;
+  only = subst (λ (x : Trace). ChangesAfterFront format x v) same only;
 }

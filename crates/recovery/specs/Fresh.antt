@@ -41,22 +41,22 @@ pub record IsFirstLeaf (p : Page) : Type 0 where
 
 -- the bytes of each block from there to there are zeros
 abbrev pub AreZero : Format → ℕ → ℕ → List ℕ → Type 0
-AreZero limits from to file = (block : ℕ) → from ≤ block → block < to
-    → Has (place limits block) (replicate 4096 0) file
+AreZero format from to file = (block : ℕ) → from ≤ block → block < to
+    → Has (place format block) (replicate 4096 0) file
 
 -- the pages of an empty index, and zeros in all other blocks
-pub record HasPages (limits : Format) (file : List ℕ) : Type 0 where
+pub record HasPages (format : Format) (file : List ℕ) : Type 0 where
   pub meta : Page
   pub is_meta : IsFirstMeta meta
   pub leaf : Page
   pub is_leaf : IsFirstLeaf leaf
-  pub has_meta : Has (place limits 0) (page_bytes meta) file
-  pub has_leaf : Has (place limits 1) (page_bytes leaf) file
-  pub unused : AreZero limits 2 limits.pages file
+  pub has_meta : Has (place format 0) (page_bytes meta) file
+  pub has_leaf : Has (place format 1) (page_bytes leaf) file
+  pub unused : AreZero format 2 format.pages file
 
 -- these pages and a closed log, and no crash changes them
-pub record HasBody (limits : Format) (m : DiskMoment) : Type 0 where
-  pub pages : HasPages limits m.seen
+pub record HasBody (format : Format) (m : DiskMoment) : Type 0 where
+  pub pages : HasPages format m.seen
   pub gate : OnDisk log_start (0 ∷ []) m
   pub firm : (i : ℕ) → log_start ≤ i → m.loose i ≡ false
 
@@ -79,35 +79,35 @@ abbrev pub CrashesToNoMagic : DiskMoment → Type 0
 CrashesToNoMagic m = (image : List ℕ) → MayCrashTo m image → take 8 image ≢ magic
 
 -- all of the new index stands except for its superblock, which is being written, or stands too
-pub record IsFinishing (limits : Format) (m : DiskMoment) : Type 0 where
-  pub body : HasBody limits m
-  pub either : IsFrontLoose m ⊎ OnDisk 0 (superblock limits) m
+pub record IsFinishing (format : Format) (m : DiskMoment) : Type 0 where
+  pub body : HasBody format m
+  pub either : IsFrontLoose m ⊎ OnDisk 0 (superblock format) m
 
 -- a moment while an index is made: what was there loses its superblock, alone; or no crash leaves an index;
 -- or the new one gets its superblock, last
 abbrev pub IsMaking : Format → DiskMoment → DiskMoment → Type 0
-IsMaking limits old m = IsClearing old m ⊎ CrashesToNoMagic m ⊎ IsFinishing limits m
+IsMaking format old m = IsClearing old m ⊎ CrashesToNoMagic m ⊎ IsFinishing format m
 
 -- an empty index, which no crash changes
-pub record IsEmptyIndex (limits : Format) (m : DiskMoment) : Type 0 where
-  pub superblock : OnDisk 0 (superblock limits) m
-  pub body : HasBody limits m
+pub record IsEmptyIndex (format : Format) (m : DiskMoment) : Type 0 where
+  pub superblock : OnDisk 0 (superblock format) m
+  pub body : HasBody format m
 
 -- whatever a crash leaves is an index of two pages: the metapage and the leaf of an empty one
-pub record CrashesToEmpty (limits : Format) (m : DiskMoment) : Type 0 where
+pub record CrashesToEmpty (format : Format) (m : DiskMoment) : Type 0 where
   pub meta : Page
   pub is_meta : IsFirstMeta meta
   pub leaf : Page
   pub is_leaf : IsFirstLeaf leaf
-  pub leaves : (image : List ℕ) → MayCrashTo m image → HasIndex limits (meta ∷ leaf ∷ []) image
+  pub leaves : (image : List ℕ) → MayCrashTo m image → HasIndex format (meta ∷ leaf ∷ []) image
 
 -- it is done: the limits are in their ranges, the device is long enough, and no call of it failed; or it is
 -- refused, and nothing is changed: for bad limits, or else for a device that is too short; or it is refused
 -- because a call of the device failed, once
 abbrev pub CreateEnds : {T : Type 0} → Format → Result T Fault → Trace → Trace → ℕ → ℕ → Type 0
-CreateEnds limits result old new failed fails = MatchResult result
-    (λ _. AreLimits limits × (needed_length limits ≤ length old.now.seen) × (fails ≡ failed))
-    (λ e. ((e ≡ BadLimits) × (AreLimits limits → ⊥) × (new ≡ old) × (fails ≡ failed))
-    ⊎ ((e ≡ DeviceTooSmall) × AreLimits limits × (length old.now.seen < needed_length limits)
+CreateEnds format result old new failed fails = MatchResult result
+    (λ _. AreLimits format × (needed_length format ≤ length old.now.seen) × (fails ≡ failed))
+    (λ e. ((e ≡ BadLimits) × (AreLimits format → ⊥) × (new ≡ old) × (fails ≡ failed))
+    ⊎ ((e ≡ DeviceTooSmall) × AreLimits format × (length old.now.seen < needed_length format)
     × (new ≡ old) × (fails ≡ failed))
     ⊎ ((e ≡ Io) × (fails ≡ suc failed)))

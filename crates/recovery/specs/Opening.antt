@@ -28,16 +28,16 @@ AreFrames frames = (16 ≤ frames) × (frames ≤ 1024)
 
 -- the device begins with the superblock of these limits, which are in their ranges, and has room for their
 -- index
-pub record IsFront (limits : Format) (file : List ℕ) : Type 0 where
-  pub allowed : AreLimits limits
-  pub superblock_is : take 4096 file ≡ superblock limits
-  pub long : needed_length limits ≤ length file
+pub record IsFront (format : Format) (file : List ℕ) : Type 0 where
+  pub allowed : AreLimits format
+  pub superblock_is : take 4096 file ≡ superblock format
+  pub long : needed_length format ≤ length file
 
 -- no superblock stands there, or the device is shorter than it says
 abbrev pub IsNoFront : List ℕ → Fault → Type 0
 IsNoFront file fault = IsNoSuperblock (take 4096 file) fault
-    ⊎ ((fault ≡ BadSuper) × (limits : Format) × AreLimits limits
-    × (take 4096 file ≡ superblock limits) × (length file < needed_length limits))
+    ⊎ ((fault ≡ BadSuper) × (format : Format) × AreLimits format
+    × (take 4096 file ≡ superblock format) × (length file < needed_length format))
 
 -- the faults of a superblock
 abbrev pub IsFrontFault : Fault → Type 0
@@ -45,8 +45,8 @@ IsFrontFault fault = (fault ≡ BadSuper) ⊎ (fault ≡ BadVersion) ⊎ (fault 
 
 -- the log's range is groups: each open one is whole
 abbrev pub HasGroups : Format → List ℕ → Type 0
-HasGroups limits file =
-    (groups : List (List Page)) × SpellsGroups limits (log_range limits file) groups
+HasGroups format file =
+    (groups : List (List Page)) × SpellsGroups format (log_range format file) groups
 
 -- it is refused before anything is done: for frames out of their range; or else for a device of less than
 -- 4,096 bytes; or else for what stands in front
@@ -59,39 +59,39 @@ IsFrontRefusal honest frames file fault =
 -- it is refused after that: memory was refused; or an open group of the log isn't one of the format, and
 -- nothing was written; or a block is damaged
 abbrev pub IsRestoreRefusal : Format → Bool → Trace → Trace → Fault → Type 0
-IsRestoreRefusal limits honest old new fault =
+IsRestoreRefusal format honest old new fault =
     (fault ≡ NoMemory)
     ⊎ ((fault ≡ LogDamaged) × (new ≡ next (synced old.now) old)
-    × (IsTrue honest → IsDamaged limits old.now))
-    ⊎ IsDamagedBlock limits honest new.now.seen fault
+    × (IsTrue honest → IsDamaged format old.now))
+    ⊎ IsDamagedBlock format honest new.now.seen fault
 
 -- refused for one of these
 abbrev pub IsRefusal : Bool → ℕ → Trace → Trace → Fault → Type 0
 IsRefusal honest frames old new fault =
     (IsFrontRefusal honest frames old.now.seen fault × (new ≡ old))
-    ⊎ ((limits : Format) × AreFrames frames × (IsTrue honest → IsFront limits old.now.seen)
-    × IsRestoreRefusal limits honest old new fault)
+    ⊎ ((format : Format) × AreFrames frames × (IsTrue honest → IsFront format old.now.seen)
+    × IsRestoreRefusal format honest old new fault)
 
 -- no crash changes a byte
 abbrev pub IsSynced : DiskMoment → Type 0
 IsSynced m = (i : ℕ) → m.loose i ≡ false
 
 -- an opened log without open groups, and what was read
-pub record IsRestored (limits : Format) (honest : Bool) (file : List ℕ) (parts : Parts)
+pub record IsRestored (format : Format) (honest : Bool) (file : List ℕ) (parts : Parts)
     : Type 0 where
-  pub opened : IsOpened limits parts.log
+  pub opened : IsOpened format parts.log
   pub closed : groups_end parts.log ≡ 0
-  pub read : IsAllRead limits honest file parts.found
+  pub read : IsAllRead format honest file parts.found
 
 -- the index that was found: restored, on a device that is long enough; its superblock stood there, and an
 -- undamaged log
 pub record IsFound (honest : Bool) (old new : List ℕ) (parts : Parts) : Type 0 where
-  pub limits : Format
-  pub allowed : AreLimits limits
-  pub long : needed_length limits ≤ length new
-  pub restored : IsRestored limits honest new parts
-  pub front : IsTrue honest → IsFront limits old
-  pub undamaged : IsTrue honest → HasGroups limits old
+  pub format : Format
+  pub allowed : AreLimits format
+  pub long : needed_length format ≤ length new
+  pub restored : IsRestored format honest new parts
+  pub front : IsTrue honest → IsFront format old
+  pub undamaged : IsTrue honest → HasGroups format old
 
 -- the pages that were read are these, which stand at home
 pub record AreSamePages (pages : List Page) (m : DiskMoment) (parts : Parts) : Type 0 where
@@ -106,24 +106,24 @@ IsNoMemoryOrIo fault = (fault ≡ NoMemory) ⊎ (fault ≡ Io)
 -- each one that may be stored; no deletion number counts, and the last cycle number is the greatest of the
 -- pages
 pub record IsFreshlyOpened (frames : ℕ) (st : State) : Type 0 where
-  pub allowed : AreLimits st.limits
+  pub allowed : AreLimits st.format
   pub some : 0 < length st.pages
-  pub few : length st.pages ≤ st.limits.pages
-  pub stored : AreStored st.limits 0 st.pages
-  pub is : st ≡ opened_state st.limits frames st.pages
+  pub few : length st.pages ≤ st.format.pages
+  pub stored : AreStored st.format 0 st.pages
+  pub is : st ≡ opened_state st.format frames st.pages
       (replicate (length st.pages) 0) (greatest_cycle st.pages)
 
 -- the index of a store stands on its device: its superblock and an undamaged log stood there before, its
 -- pages stand there now
 pub record StandsOnDevice (st : State) (old new : List ℕ) : Type 0 where
-  pub front : IsFront st.limits old
-  pub undamaged : HasGroups st.limits old
-  pub in_use : AreInUse st.limits st.pages new
+  pub front : IsFront st.format old
+  pub undamaged : HasGroups st.format old
+  pub in_use : AreInUse st.format st.pages new
 
 -- the store has these pages, and is an own device's
-pub record IsSameIndex {D : Type 0} (g : Ghosts D) (limits : Format) (pages : List Page)
+pub record IsSameIndex {D : Type 0} (g : Ghosts D) (format : Format) (pages : List Page)
     (store : Store D g) : Type 0 where
-  pub limits_are : (state_of g store).limits ≡ limits
+  pub format_is : (state_of g store).format ≡ format
   pub pages_are : (state_of g store).pages ≡ pages
   pub own : IsOwnStore g store
 

@@ -70,72 +70,72 @@ pub(crate) fn place<D: Device>(device: &mut D, at: u64, bytes: &[u8]) -> Result<
 const BATCH: u32 = 16;
 
 /// Writes zeros over each block from the third on, 16 blocks at a time.
-fn place_zeros<D: Device>(device: &mut D, limits: &Format) -> Result<(), Fault>
-    requires allowed { AreLimits limits.now }
-    requires inside { needed_length limits.now ≤ length (D.trace device.old).now.seen }
+fn place_zeros<D: Device>(device: &mut D, format: &Format) -> Result<(), Fault>
+    requires allowed { AreLimits format.now }
+    requires inside { needed_length format.now ≤ length (D.trace device.old).now.seen }
     ensures there { OnOk result
-        (AreZero limits.now 2 limits.now.pages (D.trace device.new).now.seen) }
+        (AreZero format.now 2 format.now.pages (D.trace device.new).now.seen) }
     ensures moments { AtEachMoment
-        (ChangesOnly (place limits.now 2) (4096 * (limits.now.pages - 2)) (D.trace device.old).now)
+        (ChangesOnly (place format.now 2) (4096 * (format.now.pages - 2)) (D.trace device.old).now)
         (D.trace device.old) (D.trace device.new) }
     ensures calls { OnlyWrites D.Device result device.old device.new }
 {
     let zeros = [0; 65_536];
     let mut block = 2;
-    while block < limits.pages {
-        let end = limits.pages.min(block + BATCH);
+    while block < format.pages {
+        let end = format.pages.min(block + BATCH);
         let len = 4096 * (end - block) as usize;
-        place(device, page_place(limits, block), &zeros[..len])?;
+        place(device, page_place(format, block), &zeros[..len])?;
         block = end;
     }
     Ok(())
 }
 
 /// Writes the page at its block.
-fn place_page<D: Device>(device: &mut D, limits: &Format, page: &Page) -> Result<(), Fault>
-    requires allowed { AreLimits limits.now }
-    requires below { page.now.block < limits.now.pages }
-    requires inside { needed_length limits.now ≤ length (D.trace device.old).now.seen }
+fn place_page<D: Device>(device: &mut D, format: &Format, page: &Page) -> Result<(), Fault>
+    requires allowed { AreLimits format.now }
+    requires below { page.now.block < format.now.pages }
+    requires inside { needed_length format.now ≤ length (D.trace device.old).now.seen }
     ensures there { OnOk result
-        (Has (place limits.now page.now.block) (page_bytes page.now)
+        (Has (place format.now page.now.block) (page_bytes page.now)
         (D.trace device.new).now.seen) }
     ensures long { length (page_bytes page.now) ≡ 4096 }
     ensures moments { AtEachMoment
-        (ChangesOnly (place limits.now page.now.block) 4096 (D.trace device.old).now)
+        (ChangesOnly (place format.now page.now.block) 4096 (D.trace device.old).now)
         (D.trace device.old) (D.trace device.new) }
     ensures calls { OnlyWrites D.Device result device.old device.new }
 {
     let mut bytes = [0; 4096];
     encode(page, &mut bytes);
-    place(device, page_place(limits, page.block), &bytes)
+    place(device, page_place(format, page.block), &bytes)
 }
 
 /// Writes the pages of an empty index, and zeros after them.
-fn place_pages<D: Device>(device: &mut D, limits: &Format) -> Result<(), Fault>
-    requires allowed { AreLimits limits.now }
-    requires inside { needed_length limits.now ≤ length (D.trace device.old).now.seen }
-    ensures there { OnOk result (HasPages limits.now (D.trace device.new).now.seen) }
+fn place_pages<D: Device>(device: &mut D, format: &Format) -> Result<(), Fault>
+    requires allowed { AreLimits format.now }
+    requires inside { needed_length format.now ≤ length (D.trace device.old).now.seen }
+    ensures there { OnOk result (HasPages format.now (D.trace device.new).now.seen) }
     ensures moments { AtEachMoment
-        (ChangesOnly (place limits.now 0) (4096 * limits.now.pages) (D.trace device.old).now)
+        (ChangesOnly (place format.now 0) (4096 * format.now.pages) (D.trace device.old).now)
         (D.trace device.old) (D.trace device.new) }
     ensures calls { OnlyWrites D.Device result device.old device.new }
 {
-    place_zeros(device, limits)?;
-    place_page(device, limits, &first_meta())?;
-    place_page(device, limits, &first_leaf())
+    place_zeros(device, format)?;
+    place_page(device, format, &first_meta())?;
+    place_page(device, format, &first_leaf())
 }
 
 /// Writes all but the superblock, a closed gate at the beginning of the log, and syncs it.
-fn place_body<D: Device>(device: &mut D, limits: &Format) -> Result<(), Fault>
-    requires allowed { AreLimits limits.now }
-    requires inside { needed_length limits.now ≤ length (D.trace device.old).now.seen }
-    ensures there { OnOk result (HasBody limits.now (D.trace device.new).now) }
-    ensures moments { ChangesAfterFront limits.now (D.trace device.old) (D.trace device.new) }
-    ensures log { SameLogBytes limits.now (D.trace device.old) (D.trace device.new) }
+fn place_body<D: Device>(device: &mut D, format: &Format) -> Result<(), Fault>
+    requires allowed { AreLimits format.now }
+    requires inside { needed_length format.now ≤ length (D.trace device.old).now.seen }
+    ensures there { OnOk result (HasBody format.now (D.trace device.new).now) }
+    ensures moments { ChangesAfterFront format.now (D.trace device.old) (D.trace device.new) }
+    ensures log { SameLogBytes format.now (D.trace device.old) (D.trace device.new) }
     ensures calls { OnlyWrites D.Device result device.old device.new }
 {
     place(device, LOG_START, &[0])?;
-    place_pages(device, limits)?;
+    place_pages(device, format)?;
     device.sync()
 }
 
@@ -153,20 +153,20 @@ fn place_front<D: Device>(device: &mut D, bytes: &[u8; 4096]) -> Result<(), Faul
 
 /// Writes and syncs an empty index over whatever the device holds, in this order: zeros over the superblock;
 /// then the pages and a closed log; then the superblock. If it is stopped in between, it may be called again.
-fn write_index<D: Device>(device: &mut D, limits: &Format) -> Result<(), Fault>
-    requires allowed { AreLimits limits.now }
-    requires inside { needed_length limits.now ≤ length (D.trace device.old).now.seen }
-    ensures made { OnOk result (IsEmptyIndex limits.now (D.trace device.new).now) }
-    ensures moments { AtEachMoment (IsMaking limits.now (D.trace device.old).now)
+fn write_index<D: Device>(device: &mut D, format: &Format) -> Result<(), Fault>
+    requires allowed { AreLimits format.now }
+    requires inside { needed_length format.now ≤ length (D.trace device.old).now.seen }
+    ensures made { OnOk result (IsEmptyIndex format.now (D.trace device.new).now) }
+    ensures moments { AtEachMoment (IsMaking format.now (D.trace device.old).now)
         (D.trace device.old) (D.trace device.new) }
-    ensures outside { ChangesItsBytes limits.now (D.trace device.old) (D.trace device.new) }
-    ensures log { SameLogBytes limits.now (D.trace device.old) (D.trace device.new) }
+    ensures outside { ChangesItsBytes format.now (D.trace device.old) (D.trace device.new) }
+    ensures log { SameLogBytes format.now (D.trace device.old) (D.trace device.new) }
     ensures calls { OnlyWrites D.Device result device.old device.new }
 {
     let mut front = [0; 4096];
     place_front(device, &front)?;
-    place_body(device, limits)?;
-    spell_superblock(limits, &mut front);
+    place_body(device, format)?;
+    spell_superblock(format, &mut front);
     place_front(device, &front)
 }
 

@@ -14,17 +14,17 @@ use page_codec::page_place;
 use redo_log::Replayed;
 
 /// Writes the last image of each block to its place, once, from the bytes that were read.
-fn write_images<D: Device>(device: &mut D, limits: Format, found: &Replayed) -> Result<(), Fault>
-    requires allowed { AreLimits limits }
-    requires inside { needed_length limits ≤ length (D.trace device.old).now.seen }
-    ensures moments { AtEachMoment (ChangesNamed limits found.now (D.trace device.old).now)
+fn write_images<D: Device>(device: &mut D, format: Format, found: &Replayed) -> Result<(), Fault>
+    requires allowed { AreLimits format }
+    requires inside { needed_length format ≤ length (D.trace device.old).now.seen }
+    ensures moments { AtEachMoment (ChangesNamed format found.now (D.trace device.old).now)
         (D.trace device.old) (D.trace device.new) }
-    ensures written { OnOk result (HasImages limits found.now (D.trace device.new).now.seen) }
+    ensures written { OnOk result (HasImages format found.now (D.trace device.new).now.seen) }
     ensures calls { OnlyWrites D.Device result device.old device.new }
 {
-    for block in 0..limits.pages {
+    for block in 0..format.pages {
         if let Some(bytes) = found.image(block) {
-            place(device, page_place(&limits, block), bytes)?;
+            place(device, page_place(&format, block), bytes)?;
         }
     }
     Ok(())
@@ -34,16 +34,16 @@ fn write_images<D: Device>(device: &mut D, limits: Format, found: &Replayed) -> 
 /// that have an image change. Refused with `Io` (2).
 pub(crate) fn bring_home<D: Device>(
     device: &mut D,
-    limits: Format,
+    format: Format,
     found: &Replayed,
 ) -> Result<(), Fault>
-    requires allowed { AreLimits limits }
-    requires inside { needed_length limits ≤ length (D.trace device.old).now.seen }
-    ensures moments { AtEachMoment (ChangesNamed limits found.now (D.trace device.old).now)
+    requires allowed { AreLimits format }
+    requires inside { needed_length format ≤ length (D.trace device.old).now.seen }
+    ensures moments { AtEachMoment (ChangesNamed format found.now (D.trace device.old).now)
         (D.trace device.old) (D.trace device.new) }
-    ensures home { OnOk result (AreHomed limits found.now (D.trace device.new).now) }
+    ensures home { OnOk result (AreHomed format found.now (D.trace device.new).now) }
     ensures calls { OnlyWrites D.Device result device.old device.new }
 {
-    write_images(device, limits, found)?;
+    write_images(device, format, found)?;
     device.sync()
 }

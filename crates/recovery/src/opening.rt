@@ -6,7 +6,7 @@ ghost use Rattle.index_model.specs.Limits.{AreLimits};
 ghost use Rattle.page_codec.specs.declared.page.Page.{Page};
 ghost use Rattle.page_action.specs.Room.{LogIsClosed};
 ghost use Rattle.page_store.specs.Logged.{StandsOpened, backing_of};
-ghost use Rattle.page_store.specs.Rooms.{limits_of_room, frames_of_room};
+ghost use Rattle.page_store.specs.Rooms.{format_of_room, frames_of_room};
 ghost use Rattle.page_store.specs.Stores.{state_of, held_by};
 ghost use Rattle.index_model.specs.declared.format.Format.{Format};
 ghost use Rattle.page_codec.specs.Places.{needed_length};
@@ -45,16 +45,16 @@ pub(crate) struct Parts {
 /// The sizes of the index on the device. Refused, in this order: a number of frames out of 16 to 1,024
 /// (`BadLimits`, 18); fewer than 4,096 bytes (`BadSuper`, 14); a failed read (`Io`, 2); what the superblock
 /// is refused with; a device shorter than it says (`BadSuper`).
-fn find_limits<D: Device>(device: &mut D, frames: u32) -> Result<Format, Fault>
-    ensures front { IfOk result (λ limits. IsTrue (D.is_honest device.new)
-        → IsFront limits (D.trace device.old).now.seen) }
+fn find_format<D: Device>(device: &mut D, frames: u32) -> Result<Format, Fault>
+    ensures front { IfOk result (λ format. IsTrue (D.is_honest device.new)
+        → IsFront format (D.trace device.old).now.seen) }
     ensures allowed { IfOk result AreLimits }
-    ensures long { IfOk result (λ limits.
-        needed_length limits ≤ length (D.trace device.old).now.seen) }
+    ensures long { IfOk result (λ format.
+        needed_length format ≤ length (D.trace device.old).now.seen) }
     ensures frames { OnOk result (AreFrames frames) }
-    ensures only { AreFrames frames → IsTrue (D.is_honest device.new) → (limits : Format)
-        → IsFront limits (D.trace device.old).now.seen
-        → MatchResult result (λ found. found ≡ limits) (λ e. e ≡ Fault.Io) }
+    ensures only { AreFrames frames → IsTrue (D.is_honest device.new) → (format : Format)
+        → IsFront format (D.trace device.old).now.seen
+        → MatchResult result (λ found. found ≡ format) (λ e. e ≡ Fault.Io) }
     ensures calls { OnlyReads D.Device device.old device.new }
     ensures cause { FailsWithIoOr
         (IsFrontRefusal (D.is_honest device.new) frames (D.trace device.old).now.seen)
@@ -68,42 +68,42 @@ fn find_limits<D: Device>(device: &mut D, frames: u32) -> Result<Format, Fault>
     }
     let mut bytes = [0; 4096];
     device.read_at(0, &mut bytes)?;
-    let limits = read_superblock(&bytes)?;
-    if device.len() < page_place(&limits, limits.pages) {
+    let format = read_superblock(&bytes)?;
+    if device.len() < page_place(&format, format.pages) {
         return Err(Fault::BadSuper);
     }
-    Ok(limits)
+    Ok(format)
 }
 
 /// Brings what the log holds to the places of its blocks, and closes the log. Refused with `NoMemory` (1),
 /// `Io` (2) and `LogDamaged` (16).
-fn restore_log<D: Device>(alloc: Global, device: &mut D, limits: Format) -> Result<Log, Fault>
-    requires allowed { AreLimits limits }
-    requires inside { needed_length limits ≤ length (D.trace device.old).now.seen }
-    ensures opened { IfOk result (IsOpened limits) }
+fn restore_log<D: Device>(alloc: Global, device: &mut D, format: Format) -> Result<Log, Fault>
+    requires allowed { AreLimits format }
+    requires inside { needed_length format ≤ length (D.trace device.old).now.seen }
+    ensures opened { IfOk result (IsOpened format) }
     ensures closed { IfOk result (λ log. groups_end log ≡ 0) }
     ensures undamaged { OnOk result (IsTrue (D.is_honest device.new)
-        → HasGroups limits (D.trace device.old).now.seen) }
+        → HasGroups format (D.trace device.old).now.seen) }
     ensures same { IsTrue (D.is_honest device.new) → IsSynced (D.trace device.old).now
-        → (pages : List Page) → RestartsTo limits (D.trace device.old).now.seen pages
+        → (pages : List Page) → RestartsTo format (D.trace device.old).now.seen pages
         → MatchResult result (λ log. StandsOpened log (D.trace device.new).now pages)
         IsNoMemoryOrIo }
     ensures moments { IsTrue (D.is_honest device.new) → IsSynced (D.trace device.old).now
-        → (pages : List Page) → RestartsTo limits (D.trace device.old).now.seen pages
-        → AtEachMoment (CrashesToPages limits pages) (D.trace device.old) (D.trace device.new) }
-    ensures outside { ChangesAfterFront limits (D.trace device.old) (D.trace device.new) }
+        → (pages : List Page) → RestartsTo format (D.trace device.old).now.seen pages
+        → AtEachMoment (CrashesToPages format pages) (D.trace device.old) (D.trace device.new) }
+    ensures outside { ChangesAfterFront format (D.trace device.old) (D.trace device.new) }
     ensures damaged { IfErr result (λ e. e ≡ Fault.LogDamaged
         → (D.trace device.new ≡ D.trace device.old)
-        × (IsTrue (D.is_honest device.new) → IsDamaged limits (D.trace device.old).now)) }
+        × (IsTrue (D.is_honest device.new) → IsDamaged format (D.trace device.old).now)) }
     ensures calls { ReadsAndWrites D.Device device.old device.new }
     ensures cause { ReplayFails result (D.failures device.old) (D.failures device.new) }
 {
-    let found = match Log::replay(alloc, device, limits) {
+    let found = match Log::replay(alloc, device, format) {
         Ok(found) => found,
         Err(fault) => return Err(fault),
     };
     found.log.keeping_law();
-    bring_home(device, limits, &found)?;
+    bring_home(device, format, &found)?;
     let mut log = found.log;
     log.reset(device)?;
     Ok(log)
@@ -114,31 +114,31 @@ fn restore_log<D: Device>(alloc: Global, device: &mut D, limits: Format) -> Resu
 fn restore<D: Device>(
     alloc: Global,
     device: &mut D,
-    limits: Format,
+    format: Format,
     frames: u32,
 ) -> Result<Parts, Fault>
-    requires allowed { AreLimits limits }
-    requires inside { needed_length limits ≤ length (D.trace device.old).now.seen }
+    requires allowed { AreLimits format }
+    requires inside { needed_length format ≤ length (D.trace device.old).now.seen }
     ensures frames { IfOk result (λ parts. frames_of_room parts.found.room ≡ frames) }
     ensures restored { IfOk result
-        (IsRestored limits (D.is_honest device.new) (D.trace device.new).now.seen) }
+        (IsRestored format (D.is_honest device.new) (D.trace device.new).now.seen) }
     ensures undamaged { OnOk result (IsTrue (D.is_honest device.new)
-        → HasGroups limits (D.trace device.old).now.seen) }
+        → HasGroups format (D.trace device.old).now.seen) }
     ensures same { IsTrue (D.is_honest device.new) → (pages : List Page) → 0 < length pages
-        → RestartsTo limits (D.trace device.old).now.seen pages
+        → RestartsTo format (D.trace device.old).now.seen pages
         → MatchResult result (AreSamePages pages (D.trace device.new).now) IsNoMemoryOrIo }
     ensures moments { IsTrue (D.is_honest device.new) → (pages : List Page)
-        → RestartsTo limits (D.trace device.old).now.seen pages
-        → AtEachMoment (CrashesToPages limits pages) (D.trace device.old) (D.trace device.new) }
-    ensures outside { ChangesAfterFront limits (D.trace device.old) (D.trace device.new) }
+        → RestartsTo format (D.trace device.old).now.seen pages
+        → AtEachMoment (CrashesToPages format pages) (D.trace device.old) (D.trace device.new) }
+    ensures outside { ChangesAfterFront format (D.trace device.old) (D.trace device.new) }
     ensures calls { ReadsAndWrites D.Device device.old device.new }
     ensures cause { FailsWithIoOr
-        (IsRestoreRefusal limits (D.is_honest device.new) (D.trace device.old) (D.trace device.new))
+        (IsRestoreRefusal format (D.is_honest device.new) (D.trace device.old) (D.trace device.new))
         result (D.failures device.old) (D.failures device.new) }
 {
     device.sync()?;
-    let log = restore_log(alloc, device, limits)?;
-    let found = read_pages(alloc, device, limits, frames)?;
+    let log = restore_log(alloc, device, format)?;
+    let found = read_pages(alloc, device, format, frames)?;
     Ok(Parts { log, found })
 }
 
@@ -150,13 +150,13 @@ fn read_index<D: Device>(alloc: Global, device: &mut D, frames: u32) -> Result<P
         (IsFound (D.is_honest device.new)
         (D.trace device.old).now.seen (D.trace device.new).now.seen) }
     ensures same { IsTrue (D.is_honest device.new) → AreFrames frames
-        → (limits : Format) (pages : List Page)
-        → HasIndex limits pages (D.trace device.old).now.seen
-        → MatchResult result (λ parts. (limits_of_room parts.found.room ≡ limits)
+        → (format : Format) (pages : List Page)
+        → HasIndex format pages (D.trace device.old).now.seen
+        → MatchResult result (λ parts. (format_of_room parts.found.room ≡ format)
         × AreSamePages pages (D.trace device.new).now parts) IsNoMemoryOrIo }
-    ensures moments { IsTrue (D.is_honest device.new) → (limits : Format) (pages : List Page)
-        → HasIndex limits pages (D.trace device.old).now.seen
-        → AtEachMoment (CrashesToPages limits pages) (D.trace device.old) (D.trace device.new) }
+    ensures moments { IsTrue (D.is_honest device.new) → (format : Format) (pages : List Page)
+        → HasIndex format pages (D.trace device.old).now.seen
+        → AtEachMoment (CrashesToPages format pages) (D.trace device.old) (D.trace device.new) }
     ensures outside { StaysInside (D.is_honest device.new)
         (D.trace device.old) (D.trace device.new) }
     ensures calls { ReadsAndWrites D.Device device.old device.new }
@@ -164,8 +164,8 @@ fn read_index<D: Device>(alloc: Global, device: &mut D, frames: u32) -> Result<P
         (IsRefusal (D.is_honest device.new) frames (D.trace device.old) (D.trace device.new))
         result (D.failures device.old) (D.failures device.new) }
 {
-    let limits = find_limits(device, frames)?;
-    restore(alloc, device, limits, frames)
+    let format = find_format(device, frames)?;
+    restore(alloc, device, format, frames)
 }
 
 /// Opens the index on the device, after any crash, for `frames` pages in memory at once (16 to 1,024). It
@@ -190,20 +190,20 @@ pub fn open<D: Device>(alloc: Global, device: D, frames: u32) -> Result<Store<D>
     ensures alive { IfOk result (λ store. (backing_of (held_by D.Device store)).stopped ≡ false) }
     ensures durable { IfOk result (λ store. (backing_of (held_by D.Device store)).durable ≡ 0) }
     ensures room { IfOk result (λ store.
-        LogIsClosed (state_of D.Device store).limits (backing_of (held_by D.Device store))) }
+        LogIsClosed (state_of D.Device store).format (backing_of (held_by D.Device store))) }
     // What it has is what stands on the device.
     ensures read { IsTrue (D.is_honest (device_left D.Device result)) → IfOk result (λ store.
         StandsOnDevice (state_of D.Device store) (D.trace device).now.seen
         (D.trace (device_left D.Device result)).now.seen) }
     // An index is opened with its pages, and refused only for want of memory or of the device.
     ensures same { IsTrue (D.is_honest (device_left D.Device result)) → AreFrames frames
-        → (limits : Format) (pages : List Page) → HasIndex limits pages (D.trace device).now.seen
-        → MatchResult result (IsSameIndex D.Device limits pages)
+        → (format : Format) (pages : List Page) → HasIndex format pages (D.trace device).now.seen
+        → MatchResult result (IsSameIndex D.Device format pages)
         (λ refused. IsNoMemoryOrIo refused.fault) }
     // A crash at each moment since leaves the same index, whatever was answered.
     ensures moments { IsTrue (D.is_honest (device_left D.Device result))
-        → (limits : Format) (pages : List Page) → HasIndex limits pages (D.trace device).now.seen
-        → AtEachMoment (CrashesToPages limits pages) (D.trace device) (D.trace (device_left D.Device result)) }
+        → (format : Format) (pages : List Page) → HasIndex format pages (D.trace device).now.seen
+        → AtEachMoment (CrashesToPages format pages) (D.trace device) (D.trace (device_left D.Device result)) }
     // Nothing but the log and the pages of the index is written.
     ensures outside { StaysInside (D.is_honest (device_left D.Device result))
         (D.trace device) (D.trace (device_left D.Device result)) }

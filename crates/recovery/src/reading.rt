@@ -3,7 +3,7 @@
 ghost use Rattle.std.specs.Prelude.{◌≡◌, ◌⊎◌, ◌+◌, ◌-◌, ◌*◌, ◌≤◌, ◌<◌, ℕ, suc, Bool, IsTrue, List, [], length, replicate, slice_range, IfOk, IfErr, OnOk};
 ghost use Rattle.index_model.specs.Limits.{AreLimits};
 ghost use Rattle.page_codec.specs.Places.{needed_length};
-ghost use Rattle.page_store.specs.Rooms.{limits_of_room, frames_of_room, pages_of_room, counts_of_room};
+ghost use Rattle.page_store.specs.Rooms.{format_of_room, frames_of_room, pages_of_room, counts_of_room};
 ghost use Rattle.recovery.specs.Calls.{OnlyReads, FailsWithIoOr};
 ghost use Rattle.recovery.specs.Reading.{block_bytes, AreBlocks, AreBytesOf, IsEnd, IsDamagedBlock, HasReadPages, IsAllRead};
 ghost use Rattle.page_action.specs.Stored.{IsStored};
@@ -75,25 +75,25 @@ fn piece(bytes: &[u8], at: usize) -> &[u8]
 /// that is unused, or `end`. Refused with `PageDamaged` (17) for the first one that is damaged.
 fn add_blocks(from: u32, end: u32, bytes: &[u8], found: &mut Found) -> Result<u32, Fault>
     requires order { from ≤ end }
-    requires within { end ≤ (limits_of_room found.old.room).pages }
+    requires within { end ≤ (format_of_room found.old.room).pages }
     requires whole { length bytes.now ≡ 4096 * (end - from) }
     requires number { length (pages_of_room found.old.room) ≡ from }
     ensures read { (honest : Bool) (file : List ℕ)
-        → HasReadPages (limits_of_room found.old.room) honest file found.old
-        → (IsTrue honest → AreBlocks (limits_of_room found.old.room) from end bytes.now file)
-        → OnOk result (HasReadPages (limits_of_room found.old.room) honest file found.new) }
+        → HasReadPages (format_of_room found.old.room) honest file found.old
+        → (IsTrue honest → AreBlocks (format_of_room found.old.room) from end bytes.now file)
+        → OnOk result (HasReadPages (format_of_room found.old.room) honest file found.new) }
     ensures number { IfOk result (λ next. next ≡ length (pages_of_room found.new.room)) }
     ensures few { IfOk result (λ next. next ≤ end) }
     ensures unused { (file : List ℕ)
-        → AreBlocks (limits_of_room found.old.room) from end bytes.now file
+        → AreBlocks (format_of_room found.old.room) from end bytes.now file
         → IfOk result (λ next. next < end
-        → block_bytes (limits_of_room found.old.room) next file ≡ replicate 4096 0) }
-    ensures limits { limits_of_room found.new.room ≡ limits_of_room found.old.room }
+        → block_bytes (format_of_room found.old.room) next file ≡ replicate 4096 0) }
+    ensures format { format_of_room found.new.room ≡ format_of_room found.old.room }
     ensures frames { frames_of_room found.new.room ≡ frames_of_room found.old.room }
     ensures cause { (honest : Bool) (file : List ℕ)
-        → HasReadPages (limits_of_room found.old.room) honest file found.old
-        → (IsTrue honest → AreBlocks (limits_of_room found.old.room) from end bytes.now file)
-        → IfErr result (IsDamagedBlock (limits_of_room found.old.room) honest file) }
+        → HasReadPages (format_of_room found.old.room) honest file found.old
+        → (IsTrue honest → AreBlocks (format_of_room found.old.room) from end bytes.now file)
+        → IfErr result (IsDamagedBlock (format_of_room found.old.room) honest file) }
 {
     for block in from..end {
         let at = 4096 * (block - from) as usize;
@@ -111,34 +111,34 @@ fn add_blocks(from: u32, end: u32, bytes: &[u8], found: &mut Found) -> Result<u3
 /// the first block that is damaged.
 fn add_pages<D: Device>(
     device: &mut D,
-    limits: Format,
+    format: Format,
     batch: &mut [u8],
     found: &mut Found,
 ) -> Result<u32, Fault>
-    requires allowed { AreLimits limits }
-    requires inside { needed_length limits ≤ length (D.trace device.old).now.seen }
+    requires allowed { AreLimits format }
+    requires inside { needed_length format ≤ length (D.trace device.old).now.seen }
     requires batch { length batch.old ≡ 65536 }
-    requires limits { limits_of_room found.old.room ≡ limits }
+    requires format { format_of_room found.old.room ≡ format }
     requires empty { pages_of_room found.old.room ≡ [] }
     requires uncounted { counts_of_room found.old.room ≡ [] }
     requires last_cycle { found.old.last_cycle ≡ 0 }
     ensures read { OnOk result
-        (HasReadPages limits (D.is_honest device.new) (D.trace device.old).now.seen found.new) }
+        (HasReadPages format (D.is_honest device.new) (D.trace device.old).now.seen found.new) }
     ensures frames { frames_of_room found.new.room ≡ frames_of_room found.old.room }
     ensures number { IfOk result (λ used. used ≡ length (pages_of_room found.new.room)) }
-    ensures few { IfOk result (λ used. used ≤ limits.pages) }
+    ensures few { IfOk result (λ used. used ≤ format.pages) }
     ensures end { IfOk result (λ used. IsTrue (D.is_honest device.new)
-        → IsEnd limits used (D.trace device.old).now.seen) }
+        → IsEnd format used (D.trace device.old).now.seen) }
     ensures calls { OnlyReads D.Device device.old device.new }
     ensures cause { FailsWithIoOr
-        (IsDamagedBlock limits (D.is_honest device.new) (D.trace device.old).now.seen)
+        (IsDamagedBlock format (D.is_honest device.new) (D.trace device.old).now.seen)
         result (D.failures device.old) (D.failures device.new) }
 {
     let mut used = 0;
-    while used < limits.pages {
-        let end = limits.pages.min(used + BATCH);
+    while used < format.pages {
+        let end = format.pages.min(used + BATCH);
         let bytes = &mut batch[..4096 * (end - used) as usize];
-        device.read_at(page_place(&limits, used), bytes)?;
+        device.read_at(page_place(&format, used), bytes)?;
         used = add_blocks(used, end, bytes, found)?;
         if used < end {
             return Ok(used);
@@ -153,26 +153,26 @@ fn add_pages<D: Device>(
 pub(crate) fn read_pages<D: Device>(
     alloc: Global,
     device: &mut D,
-    limits: Format,
+    format: Format,
     frames: u32,
 ) -> Result<Found, Fault>
-    requires allowed { AreLimits limits }
-    requires inside { needed_length limits ≤ length (D.trace device.old).now.seen }
+    requires allowed { AreLimits format }
+    requires inside { needed_length format ≤ length (D.trace device.old).now.seen }
     ensures frames { IfOk result (λ found. frames_of_room found.room ≡ frames) }
     ensures read { IfOk result
-        (IsAllRead limits (D.is_honest device.new) (D.trace device.old).now.seen) }
+        (IsAllRead format (D.is_honest device.new) (D.trace device.old).now.seen) }
     ensures calls { OnlyReads D.Device device.old device.new }
     ensures cause { FailsWithIoOr
         (λ e. (e ≡ Fault.NoMemory)
-        ⊎ IsDamagedBlock limits (D.is_honest device.new) (D.trace device.old).now.seen e)
+        ⊎ IsDamagedBlock format (D.is_honest device.new) (D.trace device.old).now.seen e)
         result (D.failures device.old) (D.failures device.new) }
 {
     let mut found = Found {
-        room: StoreRoom::new(alloc, limits, frames)?,
+        room: StoreRoom::new(alloc, format, frames)?,
         last_cycle: 0,
     };
     let mut batch = batch_room(alloc)?;
-    let used = add_pages(device, limits, &mut batch, &mut found)?;
+    let used = add_pages(device, format, &mut batch, &mut found)?;
     if used == 0 {
         return Err(Fault::PageDamaged(0));
     }

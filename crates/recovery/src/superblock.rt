@@ -77,15 +77,15 @@ fn is_unique(layout: Layout, number: u32) -> bool
 }
 
 /// Writes the bytes of the superblock over all 4,096 bytes.
-pub(crate) fn spell_superblock(limits: &Format, out: &mut [u8; 4096])
-    ensures { out.new ≡ superblock limits.now }
+pub(crate) fn spell_superblock(format: &Format, out: &mut [u8; 4096])
+    ensures { out.new ≡ superblock format.now }
 {
     let at = put(out, 0, &MAGIC);
-    let at = put_number(out, at, number_of(limits.layout));
-    let at = put_number(out, at, limits.items);
-    let at = put_number(out, at, limits.pages);
-    let at = put_number(out, at, limits.log_bytes);
-    let at = put_number(out, at, number_if(limits.unique));
+    let at = put_number(out, at, number_of(format.layout));
+    let at = put_number(out, at, format.items);
+    let at = put_number(out, at, format.pages);
+    let at = put_number(out, at, format.log_bytes);
+    let at = put_number(out, at, number_if(format.unique));
     clear_from(out, at);
 }
 
@@ -106,9 +106,9 @@ fn number_at(bytes: &[u8; 4096], at: usize) -> u32
 /// zeros stand after it.
 pub(crate) fn read_superblock(bytes: &[u8; 4096]) -> Result<Format, Fault>
     ensures allowed { IfOk result AreLimits }
-    ensures found { IfOk result (λ limits. bytes.now ≡ superblock limits) }
-    ensures only { (limits : Format) → AreLimits limits → bytes.now ≡ superblock limits
-        → result ≡ Ok limits }
+    ensures found { IfOk result (λ format. bytes.now ≡ superblock format) }
+    ensures only { (format : Format) → AreLimits format → bytes.now ≡ superblock format
+        → result ≡ Ok format }
     ensures fault { IfErr result (IsNoSuperblock bytes.now) }
 {
     if bytes[..8] != MAGIC[..] {
@@ -117,20 +117,20 @@ pub(crate) fn read_superblock(bytes: &[u8; 4096]) -> Result<Format, Fault>
     let Some(layout) = layout_of(number_at(bytes, 8)) else {
         return Err(Fault::BadVersion);
     };
-    let limits = Format {
+    let format = Format {
         layout,
         unique: is_unique(layout, number_at(bytes, 24)),
         items: number_at(bytes, 12),
         pages: number_at(bytes, 16),
         log_bytes: number_at(bytes, 20),
     };
-    if !limits.are_valid() {
+    if !format.are_valid() {
         return Err(Fault::BadLimits);
     }
     let mut again = [0; 4096];
-    spell_superblock(&limits, &mut again);
+    spell_superblock(&format, &mut again);
     if again != *bytes {
         return Err(Fault::BadSuper);
     }
-    Ok(limits)
+    Ok(format)
 }

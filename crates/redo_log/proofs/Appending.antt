@@ -7,19 +7,19 @@ use Rattle.redo_log.proofs.BlockLists.{EachStandsOnce, distinct, length-with_blo
 use Rattle.redo_log.proofs.Laying.{with_images-same}
 
 -- what waits has the images of the action too, each in the place of its block's
-pub keeps_more : (old new : Log) (images : List Page) → new.limits ≡ old.limits → new.at ≡ old.at → new.stopped ≡ old.stopped → new.ajar ≡ old.ajar → new.written ≡ false
-    → ((laid : List Page) → AreOfBlocks old.limits (waiting_blocks old) (waiting_images old) laid → AreOfBlocks old.limits (waiting_blocks new) (waiting_images new) (with_images laid images))
+pub keeps_more : (old new : Log) (images : List Page) → new.format ≡ old.format → new.at ≡ old.at → new.stopped ≡ old.stopped → new.ajar ≡ old.ajar → new.written ≡ false
+    → ((laid : List Page) → AreOfBlocks old.format (waiting_blocks old) (waiting_images old) laid → AreOfBlocks old.format (waiting_blocks new) (waiting_images new) (with_images laid images))
     → (m : DiskMoment) (acts : List (List Page)) (forced : ℕ) → LogHolds old m acts forced → LogHolds new m (acts ++ images ∷ []) forced
-keeps_more old new images limits at stopped ajar changed laid m acts forced k =
+keeps_more old new images format at stopped ajar changed laid m acts forced k =
     record {
       alive = stopped ∙ k.alive;
       groups = k.groups;
       waiting = with_images k.waiting images;
       gate = ⊎_elim
-          (λ shut. inl (ajar ∙ shut.0, subst (λ l. IsSettled l 4096 new.at k.groups m) (sym limits) (subst (λ a. IsSettled old.limits 4096 a k.groups m) (sym at) shut.1)))
+          (λ shut. inl (ajar ∙ shut.0, subst (λ l. IsSettled l 4096 new.at k.groups m) (sym format) (subst (λ a. IsSettled old.format 4096 a k.groups m) (sym at) shut.1)))
           (λ may. inr (ajar ∙ may.0, still_let_in may.1)) k.gate;
       written = λ w. (let both : true ≡ false = sym w ∙ changed in absurd cc);
-      waits = subst (λ l. AreOfBlocks l (waiting_blocks new) (waiting_images new) (with_images k.waiting images)) (sym limits) (laid k.waiting k.waits);
+      waits = subst (λ l. AreOfBlocks l (waiting_blocks new) (waiting_images new) (with_images k.waiting images)) (sym format) (laid k.waiting k.waits);
       few = omega (arith, length-append acts (images ∷ []), k.few);
       durable = subst (λ (l : List (List Page)). SameImages (images_of k.groups) (images_of l)) (sym (take-append-le forced acts (images ∷ []) k.few)) k.durable;
       unforced = same_trans (with_images k.waiting images) (k.waiting ++ images) (images_of (drop forced (acts ++ images ∷ [])))
@@ -32,7 +32,7 @@ keeps_more old new images limits at stopped ajar changed laid m acts forced k =
     still_let_in : MayBeLetIn old m acts forced k.groups k.waiting → MayBeLetIn new m (acts ++ images ∷ []) forced k.groups (with_images k.waiting images)
     still_let_in a = record {
       group = a.group;
-      ajar = subst (λ l. IsAjar l 4096 new.at k.groups a.group m) (sym limits) (subst (λ n. IsAjar old.limits 4096 n k.groups a.group m) (sym at) a.ajar);
+      ajar = subst (λ l. IsAjar l 4096 new.at k.groups a.group m) (sym format) (subst (λ n. IsAjar old.format 4096 n k.groups a.group m) (sym at) a.ajar);
       part = a.part;
       from = a.from;
       to = omega (arith, length-append acts (images ∷ []), a.to);
@@ -47,10 +47,10 @@ fits_more at old (suc new) size waits more some = more (omega arith)
 
 -- if the new ones of these images fit, the group that waits then does
 pub fits_with : (log : Log) (images : List Page) → (0 < new_count (waiting_blocks log) images → ImagesFit log (new_count (waiting_blocks log) images))
-    → 0 < length (with_blocks (waiting_blocks log) images) → log.at + (6 + 4096 * length (with_blocks (waiting_blocks log) images)) ≤ log.limits.log_bytes
+    → 0 < length (with_blocks (waiting_blocks log) images) → log.at + (6 + 4096 * length (with_blocks (waiting_blocks log) images)) ≤ log.format.log_bytes
 fits_with log images fit some =
     let long = length-with_blocks (waiting_blocks log) images in
-    omega (arith, long, fits_more log.at (waiting_count log) (new_count (waiting_blocks log) images) log.limits.log_bytes log.fits fit (omega arith))
+    omega (arith, long, fits_more log.at (waiting_count log) (new_count (waiting_blocks log) images) log.format.log_bytes log.fits fit (omega arith))
 
 -- what waits fits into the list of the blocks
 pub fits_listed : (at count size room : ℕ) → size / 4096 ≤ room → (0 < count → at + (6 + 4096 * count) ≤ size) → count ≤ room

@@ -188,6 +188,6 @@ new_count-most blocks (p ∷ ps) = one_more (is_among_blocks blocks p.block || i
     one_more false n most le = omega arith
 
 -- images of an index have blocks below its number of pages
-pub images_inside : (limits : Format) (ps : List Page) → AreImages limits ps → AreInside limits.pages ps
-images_inside limits [] are = tt
-images_inside limits (p ∷ ps) are = (are.0.within.block, images_inside limits ps are.1)
+pub images_inside : (format : Format) (ps : List Page) → AreImages format ps → AreInside format.pages ps
+images_inside format [] are = tt
+images_inside format (p ∷ ps) are = (are.0.within.block, images_inside format ps are.1)

@@ -13,10 +13,10 @@ pub images_bytes-append : (xs ys : List Page) → images_bytes (xs ++ ys) ≡ im
 images_bytes-append [] ys = refl
 images_bytes-append (x ∷ xs) ys = ap (λ (l : List ℕ). page_bytes x ++ l) (images_bytes-append xs ys) ∙ sym (append_assoc (page_bytes x) (images_bytes xs) (images_bytes ys))
 
-pub length-images_bytes : (limits : Format) (ps : List Page) → AreImages limits ps → length (images_bytes ps) ≡ 4096 * length ps
-length-images_bytes limits [] are = refl
-length-images_bytes limits (p ∷ ps) are =
-    omega (arith, length-append (page_bytes p) (images_bytes ps), length-page p are.0.page, length-images_bytes limits ps are.1)
+pub length-images_bytes : (format : Format) (ps : List Page) → AreImages format ps → length (images_bytes ps) ≡ 4096 * length ps
+length-images_bytes format [] are = refl
+length-images_bytes format (p ∷ ps) are =
+    omega (arith, length-append (page_bytes p) (images_bytes ps), length-page p are.0.page, length-images_bytes format ps are.1)
 
 pub all-append : {A : Type 0} (P : A → Type 0) (xs ys : List A) → AllByRecursion P xs → AllByRecursion P ys → AllByRecursion P (xs ++ ys)
 all-append P [] ys a b = b

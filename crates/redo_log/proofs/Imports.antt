@@ -15,10 +15,10 @@ pub use Rattle.device.specs.Moments.{AtEachMoment}
 pub use Rattle.device.specs.Places.{ChangesOnly, Has, OnDisk}
 pub use Rattle.page_codec.proofs.Laws.{length-page, one_page}
 pub use Rattle.page_codec.specs.declared.page.Page.{Page}
-pub use Rattle.redo_log.specs.Blocks.{AreInside, AreOfBlocks, AreLaid, ReachesBehind, image_blocks, is_among_blocks, new_count, with_block, with_blocks, with_image, with_images}
+pub use Rattle.redo_log.specs.Blocks.{AreInside, AreOfBlocks, AreLaid, ReachesPast, image_blocks, is_among_blocks, new_count, with_block, with_blocks, with_image, with_images}
 pub use Rattle.redo_log.specs.Groups.{AreGroups, AreImages, IsGroup, IsImage, SpellsGroups, body, log_range, spelled_groups}
 pub use Rattle.redo_log.specs.Images.{SameImages, if_of, images_bytes, images_of, last_image, later_of}
-pub use Rattle.redo_log.specs.Kept.{ChangesItsRange, ForgetsForced, ImagesFit, IsAjar, IsSettled, KeepsActions, LogHolds, MayBeLetIn, RangeIsUntouched, Restarts, RestartsOrEmpty, RestartsThroughout, SameLog, Waits, WaitsAlike, IsLaid, limits_of}
+pub use Rattle.redo_log.specs.Kept.{ChangesItsRange, ForgetsForced, ImagesFit, IsAjar, IsSettled, KeepsActions, LogHolds, MayBeLetIn, RangeIsUntouched, Restarts, RestartsOrEmpty, RestartsThroughout, SameLog, Waits, WaitsAlike, IsLaid, format_of}
 pub use Rattle.redo_log.specs.Kept.{is_ajar, is_written, waiting_blocks, waiting_count, waiting_images}
 pub use Rattle.redo_log.specs.Reading.{AreAllImages, AreAllNoted, AreNoted, IsReplay, NotesGroup, NotesImages, Replays, bytes_at}
 pub use Rattle.redo_log.specs.declared.log.Log.{Log}

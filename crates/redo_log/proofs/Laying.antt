@@ -5,7 +5,7 @@ use borrow.Rule.Slice.PartMut.{put_mid}
 use Rattle.page_codec.specs.Spelling.{page_bytes}
 use Rattle.redo_log.proofs.Imports.{cases_Bool, or_parts, eqb-true, append-nil}
 use Rattle.redo_log.proofs.Imports.{drop-take, take-take, Format, Page, if_of, later_of, last_image, SameImages, images_bytes, IsImage, AreImages}
-use Rattle.redo_log.proofs.Imports.{image_blocks, is_among_blocks, with_block, with_blocks, with_image, with_images, AreOfBlocks, AreLaid, ReachesBehind}
+use Rattle.redo_log.proofs.Imports.{image_blocks, is_among_blocks, with_block, with_blocks, with_image, with_images, AreOfBlocks, AreLaid, ReachesPast}
 use Rattle.std.specs.Prelude.{slice_get}
 use Rattle.redo_log.proofs.ImageLists.{none, last_image-append, same_eq, same_trans, same_append, same_after, after_head}
 use Rattle.redo_log.proofs.BlockLists.{EachStandsOnce, distinct-with_block}
@@ -63,11 +63,11 @@ blocks_of-with_image (q ∷ qs) p = ⊎_elim
     cons_either false b xs ys = refl
 
 -- images stay images
-images-with_image : (limits : Format) (ps : List Page) (p : Page) → AreImages limits ps → IsImage limits p → AreImages limits (with_image ps p)
-images-with_image limits [] p are is = (is, tt)
-images-with_image limits (q ∷ qs) p are is = ⊎_elim
-    (λ here. subst (AreImages limits) (sym (with_image-here q qs p here)) (is, are.1))
-    (λ there. subst (AreImages limits) (sym (with_image-there q qs p there)) (are.0, images-with_image limits qs p are.1 is))
+images-with_image : (format : Format) (ps : List Page) (p : Page) → AreImages format ps → IsImage format p → AreImages format (with_image ps p)
+images-with_image format [] p are is = (is, tt)
+images-with_image format (q ∷ qs) p are is = ⊎_elim
+    (λ here. subst (AreImages format) (sym (with_image-here q qs p here)) (is, are.1))
+    (λ there. subst (AreImages format) (sym (with_image-there q qs p there)) (are.0, images-with_image format qs p are.1 is))
     (cases_Bool (q.block == p.block))
 
 -- the same of several
@@ -75,25 +75,25 @@ pub blocks_of-with_images : (ps more : List Page) → image_blocks (with_images 
 blocks_of-with_images ps [] = refl
 blocks_of-with_images ps (p ∷ more) = blocks_of-with_images (with_image ps p) more ∙ ap (λ (l : List ℕ). with_blocks l more) (blocks_of-with_image ps p)
 
-images-with_images : (limits : Format) (ps more : List Page) → AreImages limits ps → AreImages limits more → AreImages limits (with_images ps more)
-images-with_images limits ps [] are more = are
-images-with_images limits ps (p ∷ qs) are more = images-with_images limits (with_image ps p) qs (images-with_image limits ps p are more.0) more.1
+images-with_images : (format : Format) (ps more : List Page) → AreImages format ps → AreImages format more → AreImages format (with_images ps more)
+images-with_images format ps [] are more = are
+images-with_images format ps (p ∷ qs) are more = images-with_images format (with_image ps p) qs (images-with_image format ps p are more.0) more.1
 
 -- a list that takes images more has one of each block that waits then
-pub kept_more : (limits : Format) (order order' : List ℕ) (list list' images kept : List Page) → order' ≡ with_blocks order images → list' ≡ with_images list images → AreImages limits images
-    → AreOfBlocks limits order list kept → AreOfBlocks limits order' list' (with_images kept images)
-kept_more limits order order' list list' images kept blocks is are k =
+pub kept_more : (format : Format) (order order' : List ℕ) (list list' images kept : List Page) → order' ≡ with_blocks order images → list' ≡ with_images list images → AreImages format images
+    → AreOfBlocks format order list kept → AreOfBlocks format order' list' (with_images kept images)
+kept_more format order order' list list' images kept blocks is are k =
     let order_is : image_blocks (with_images kept images) ≡ order' = blocks_of-with_images kept images ∙ (ap (λ (l : List ℕ). with_blocks l images) k.blocks ∙ sym blocks) in
     record {
       counted = sym (length-blocks_of (with_images kept images)) ∙ ap length order_is;
-      images = images-with_images limits kept images k.images are;
+      images = images-with_images format kept images k.images are;
       blocks = order_is;
       same = is ∙ ap (λ (l : List Page). with_images l images) k.same;
     }
 
 -- no image is kept if no block waits
-pub none_kept : (limits : Format) (order : List ℕ) (list : List Page) → image_blocks list ≡ order → order ≡ [] → AreOfBlocks limits order list []
-none_kept limits order list named empty = record {
+pub none_kept : (format : Format) (order : List ℕ) (list : List Page) → image_blocks list ≡ order → order ≡ [] → AreOfBlocks format order list []
+none_kept format order list named empty = record {
   counted = ap length (sym empty);
   images = tt;
   blocks = sym empty;
@@ -111,7 +111,7 @@ with_images-same laid (p ∷ ps) distinct =
     (same_eq _ _ (append_assoc laid (p ∷ []) ps)))
 
 -- what was laid lies so still if bytes came behind those that were
-laid_longer : (count : ℕ) (old longer : List ℕ) → take (length old) longer ≡ old → ReachesBehind count old → take (4096 * count) (drop 4 longer) ≡ take (4096 * count) (drop 4 old)
+laid_longer : (count : ℕ) (old longer : List ℕ) → take (length old) longer ≡ old → ReachesPast count old → take (4096 * count) (drop 4 longer) ≡ take (4096 * count) (drop 4 old)
 laid_longer zero old longer kept reaches = refl
 laid_longer (suc n) old longer kept reaches =
     let m = 4096 * suc n in
@@ -120,7 +120,7 @@ laid_longer (suc n) old longer kept reaches =
     ∙ drop-take 4 m old)
 
 -- bytes are laid behind those
-pub laid_behind : (count : ℕ) (old longer piece new : List ℕ) → take (length old) longer ≡ old → ReachesBehind count old → 4 + 4096 * count + 4097 ≤ length longer → length piece ≡ 4096
+pub laid_behind : (count : ℕ) (old longer piece new : List ℕ) → take (length old) longer ≡ old → ReachesPast count old → 4 + 4096 * count + 4097 ≤ length longer → length piece ≡ 4096
     → new ≡ put_mid (4 + 4096 * count) 4096 longer piece → take (4096 * suc count) (drop 4 new) ≡ take (4096 * count) (drop 4 old) ++ piece
 laid_behind count old longer piece new kept reaches fits long put =
     let at = 4096 * count in

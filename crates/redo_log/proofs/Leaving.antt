@@ -7,8 +7,8 @@ use Rattle.redo_log.proofs.ImageLists.{length-images_bytes, all-append}
 length_number : (n : ℕ) → length (to_le_bytes w32 n) ≡ 4
 length_number n = refl
 
-pub length_body : (limits : Format) (g : List Page) → IsGroup limits g → length (body g) ≡ 4 + 4096 * length g
-length_body limits g is = omega (arith, length-append (to_le_bytes w32 (length g)) (images_bytes g), length-images_bytes limits g is.images, length_number (length g))
+pub length_body : (format : Format) (g : List Page) → IsGroup format g → length (body g) ≡ 4 + 4096 * length g
+length_body format g is = omega (arith, length-append (to_le_bytes w32 (length g)) (images_bytes g), length-images_bytes format g is.images, length_number (length g))
 
 -- a range that begins so
 range_is : (start size : ℕ) (q c : List ℕ) → Has start q c → length q ≤ size → take size (drop start c) ≡ q ++ take (size - length q) (drop (start + length q) c)
@@ -22,10 +22,10 @@ range_is start size q c h le = ap (λ (l : List ℕ). take size l) (has_drop sta
         ap (λ (l : List ℕ). x ∷ l) (take_past xs ys n (omega arith) ∙ ap (λ (k : ℕ). xs ++ take k ys) e)
 
 -- open groups and a gate that isn't open
-pub shut_stands : (limits : Format) (start size : ℕ) (gs : List (List Page)) (gate : ℕ) (c : List ℕ) → AreGroups limits gs → gate ≢ 1
+pub shut_stands : (format : Format) (start size : ℕ) (gs : List (List Page)) (gate : ℕ) (c : List ℕ) → AreGroups format gs → gate ≢ 1
     → length (spelled_groups gs) + 1 ≤ size → Has start (spelled_groups gs ++ gate ∷ []) c
-    → SpellsGroups limits (take size (drop start c)) gs
-shut_stands limits start size gs gate c good shut fits h =
+    → SpellsGroups format (take size (drop start c)) gs
+shut_stands format start size gs gate c good shut fits h =
     let q = spelled_groups gs ++ gate ∷ [] in
     let rest = take (size - length q) (drop (start + length q) c) in
     record {
@@ -51,16 +51,16 @@ some_byte at c lt = record { within = omega arith; each = λ i below. one i belo
     one (suc i) below = absurd (omega arith)
 
 -- the groups stand on the disk, and after them a gate that is closed
-module _ (limits : Format) (start size at : ℕ) (gs : List (List Page)) (m : DiskMoment) (s : IsSettled limits start at gs m) (fits : at + 1 ≤ size) where
-  pub settled_leaves : (c : List ℕ) → MayCrashTo m c → SpellsGroups limits (take size (drop start c)) gs
-  settled_leaves c left = shut_stands limits start size gs s.gate c s.good s.closed (omega (arith, s.end)) (on_image start _ m c s.on_disk left)
+module _ (format : Format) (start size at : ℕ) (gs : List (List Page)) (m : DiskMoment) (s : IsSettled format start at gs m) (fits : at + 1 ≤ size) where
+  pub settled_leaves : (c : List ℕ) → MayCrashTo m c → SpellsGroups format (take size (drop start c)) gs
+  settled_leaves c left = shut_stands format start size gs s.gate c s.good s.closed (omega (arith, s.end)) (on_image start _ m c s.on_disk left)
 
   pub settled_front : OnDisk start (spelled_groups gs) m
   settled_front = on_front start (spelled_groups gs) (s.gate ∷ []) m s.on_disk
 
   -- whatever is written after the gate
-  pub settled_behind : (n : ℕ) (m' : DiskMoment) → ChangesOnly (start + at + 1) n m m' → IsSettled limits start at gs m'
-  settled_behind n m' only = record {
+  pub settled_after : (n : ℕ) (m' : DiskMoment) → ChangesOnly (start + at + 1) n m m' → IsSettled format start at gs m'
+  settled_after n m' only = record {
     good = s.good;
     end = s.end;
     gate = s.gate;
@@ -69,7 +69,7 @@ module _ (limits : Format) (start size at : ℕ) (gs : List (List Page)) (m : Di
   }
 
   -- and once it is synced
-  pub settled_synced : IsSettled limits start at gs (synced m)
+  pub settled_synced : IsSettled format start at gs (synced m)
   settled_synced = record {
     good = s.good;
     end = s.end;
@@ -79,13 +79,13 @@ module _ (limits : Format) (start size at : ℕ) (gs : List (List Page)) (m : Di
   }
 
 -- the groups, and one more after a gate
-module _ (limits : Format) (start size at : ℕ) (gs : List (List Page)) (good : AreGroups limits gs) (end : at ≡ length (spelled_groups gs))
-    (g : List Page) (is : IsGroup limits g) (room : at + (6 + 4096 * length g) ≤ size) where
+module _ (format : Format) (start size at : ℕ) (gs : List (List Page)) (good : AreGroups format gs) (end : at ≡ length (spelled_groups gs))
+    (g : List Page) (is : IsGroup format g) (room : at + (6 + 4096 * length g) ≤ size) where
   abbrev piece : List ℕ
   piece = body g ++ 0 ∷ []
 
   pub length_piece : length piece ≡ 5 + 4096 * length g
-  length_piece = omega (arith, length-append (body g) (0 ∷ []), length_body limits g is)
+  length_piece = omega (arith, length-append (body g) (0 ∷ []), length_body format g is)
 
   end_is : start + at ≡ start + length (spelled_groups gs)
   end_is = omega (arith, end)
@@ -105,12 +105,12 @@ module _ (limits : Format) (start size at : ℕ) (gs : List (List Page)) (good :
   length_pushed : length (spelled_groups (gs ++ g ∷ [])) ≡ at + (5 + 4096 * length g)
   length_pushed = omega (arith, ap length pushed, length-append (spelled_groups gs) (1 ∷ piece), length-append (spelled_groups (gs ++ g ∷ [])) (0 ∷ []), length_piece, end)
 
-  good_pushed : AreGroups limits (gs ++ g ∷ [])
-  good_pushed = all-append (IsGroup limits) gs (g ∷ []) good (is, tt)
+  good_pushed : AreGroups format (gs ++ g ∷ [])
+  good_pushed = all-append (IsGroup format) gs (g ∷ []) good (is, tt)
 
   -- if the group stands, a crash lets it in or not
   pub lets_in : (n : DiskMoment) → OnDisk start (spelled_groups gs) n → OnDisk (start + at + 1) piece n → (c : List ℕ) → MayCrashTo n c
-      → SpellsGroups limits (take size (drop start c)) gs ⊎ SpellsGroups limits (take size (drop start c)) (gs ++ g ∷ [])
+      → SpellsGroups format (take size (drop start c)) gs ⊎ SpellsGroups format (take size (drop start c)) (gs ++ g ∷ [])
   lets_in n on_gs on_piece c left =
       let front : Has start (spelled_groups gs) c = on_image start (spelled_groups gs) n c on_gs left in
       let back : Has (start + at + 1) piece c = on_image (start + at + 1) piece n c on_piece left in
@@ -118,14 +118,14 @@ module _ (limits : Format) (start size at : ℕ) (gs : List (List Page)) (good :
       let gate : Has (start + at) (x ∷ []) c = some_byte (start + at) c (omega (arith, back.within)) in
       elim (cases_eq x 1) [
         | inl is_open ↦ inr (
-            shut_stands limits start size (gs ++ g ∷ []) 0 c good_pushed (λ (e : 0 ≡ 1). absurd (omega arith)) (omega (arith, length_pushed, room))
+            shut_stands format start size (gs ++ g ∷ []) 0 c good_pushed (λ (e : 0 ≡ 1). absurd (omega arith)) (omega (arith, length_pushed, room))
             (subst (λ (l : List ℕ). Has start l c) (ap (λ (y : ℕ). spelled_groups gs ++ (y ∷ piece)) is_open ∙ pushed) (with_piece x c front gate back)))
-        | inr shut ↦ inl (shut_stands limits start size gs x c good shut (omega (arith, end)) (with_gate x c front gate))
+        | inr shut ↦ inl (shut_stands format start size gs x c good shut (omega (arith, end)) (with_gate x c front gate))
       ]
 
   -- and it is one of them once its gate stands open
   pub let_in : (n : DiskMoment) → OnDisk start (spelled_groups gs) n → OnDisk (start + at) (1 ∷ []) n → OnDisk (start + at + 1) piece n
-      → IsSettled limits start (at + (5 + 4096 * length g)) (gs ++ g ∷ []) n
+      → IsSettled format start (at + (5 + 4096 * length g)) (gs ++ g ∷ []) n
   let_in n front gate back = record {
     good = good_pushed;
     end = sym length_pushed;
@@ -136,7 +136,7 @@ module _ (limits : Format) (start size at : ℕ) (gs : List (List Page)) (good :
   }
 
   -- and not, once it stands closed
-  pub shut_out : (n : DiskMoment) → OnDisk start (spelled_groups gs) n → OnDisk (start + at) (0 ∷ []) n → IsSettled limits start at gs n
+  pub shut_out : (n : DiskMoment) → OnDisk start (spelled_groups gs) n → OnDisk (start + at) (0 ∷ []) n → IsSettled format start at gs n
   shut_out n front gate = record {
     good = good;
     end = end;
@@ -146,17 +146,17 @@ module _ (limits : Format) (start size at : ℕ) (gs : List (List Page)) (good :
   }
 
 -- while the first gate is closed, a crash leaves what there was or nothing
-pub resetting : (limits : Format) (start size : ℕ) (gs : List (List Page)) (gate : ℕ) (m n : DiskMoment) → AreGroups limits gs → gate ≢ 1
+pub resetting : (format : Format) (start size : ℕ) (gs : List (List Page)) (gate : ℕ) (m n : DiskMoment) → AreGroups format gs → gate ≢ 1
     → OnDisk start (spelled_groups gs ++ gate ∷ []) m → 0 < length (spelled_groups gs) → length (spelled_groups gs) + 1 ≤ size
-    → ChangesOnly start 1 m n → (c : List ℕ) → MayCrashTo n c → SpellsGroups limits (take size (drop start c)) gs ⊎ SpellsGroups limits (take size (drop start c)) []
-resetting limits start size [] gate m n good shut on some fits only c left = absurd (omega arith)
-resetting limits start size (g ∷ gs) gate m n good shut on some fits only c left =
+    → ChangesOnly start 1 m n → (c : List ℕ) → MayCrashTo n c → SpellsGroups format (take size (drop start c)) gs ⊎ SpellsGroups format (take size (drop start c)) []
+resetting format start size [] gate m n good shut on some fits only c left = absurd (omega arith)
+resetting format start size (g ∷ gs) gate m n good shut on some fits only c left =
     let rest = body g ++ spelled_groups gs ++ gate ∷ [] in
-    let behind : OnDisk (start + 1) rest n = kept start 1 (start + 1) rest m n only (inr (omega arith)) (on_back start (1 ∷ []) rest m on) in
-    let back : Has (start + 1) rest c = on_image (start + 1) rest n c behind left in
+    let after : OnDisk (start + 1) rest n = kept start 1 (start + 1) rest m n only (inr (omega arith)) (on_back start (1 ∷ []) rest m on) in
+    let back : Has (start + 1) rest c = on_image (start + 1) rest n c after left in
     let x = get_or c start 0 in
     let first : Has start (x ∷ []) c = some_byte start c (omega (arith, back.within)) in
     elim (cases_eq x 1) [
-      | inl is_open ↦ inl (shut_stands limits start size (g ∷ gs) gate c good shut fits (subst (λ (y : ℕ). Has start (y ∷ rest) c) is_open (has_both start (x ∷ []) rest c first back)))
-      | inr closed ↦ inr (shut_stands limits start size [] x c tt closed (omega (arith, fits)) first)
+      | inl is_open ↦ inl (shut_stands format start size (g ∷ gs) gate c good shut fits (subst (λ (y : ℕ). Has start (y ∷ rest) c) is_open (has_both start (x ∷ []) rest c first back)))
+      | inr closed ↦ inr (shut_stands format start size [] x c tt closed (omega (arith, fits)) first)
     ]

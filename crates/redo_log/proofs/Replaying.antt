@@ -27,33 +27,33 @@ has_range start size file q rest is fits =
           ∙ (ap (λ (l : List ℕ). get_or l i 0) is ∙ get_or_append_left q rest 0 i lt));
     }
 
-pub replayed : (limits : Format) (m : DiskMoment) (log : Log) (bytes : List ℕ) (images : List Page) (at : ℕ) → bytes ≡ log_range limits m.seen
-    → 4096 + limits.log_bytes ≤ length m.seen → AreAllImages limits bytes images at
-    → log.limits ≡ limits → log.at ≡ at → waiting_blocks log ≡ [] → log.stopped ≡ false → log.ajar ≡ false → log.written ≡ false → Replays limits m log images
-replayed limits m log bytes images at are fits r limits_are at_is idle alive shut unwritten =
+pub replayed : (format : Format) (m : DiskMoment) (log : Log) (bytes : List ℕ) (images : List Page) (at : ℕ) → bytes ≡ log_range format m.seen
+    → 4096 + format.log_bytes ≤ length m.seen → AreAllImages format bytes images at
+    → log.format ≡ format → log.at ≡ at → waiting_blocks log ≡ [] → log.stopped ≡ false → log.ajar ≡ false → log.written ≡ false → Replays format m log images
+replayed format m log bytes images at are fits r format_is at_is idle alive shut unwritten =
     let s = r.spells in
-    let there : take limits.log_bytes (drop 4096 m.seen) ≡ (spelled_groups r.groups ++ s.gate ∷ []) ++ s.rest = sym are ∙ (s.is ∙ sym (append_assoc (spelled_groups r.groups) (s.gate ∷ []) s.rest)) in
-    let has = has_range 4096 limits.log_bytes m.seen (spelled_groups r.groups ++ s.gate ∷ []) s.rest there fits in
-    let long : length (spelled_groups r.groups ++ s.gate ∷ []) ≤ limits.log_bytes = omega (
+    let there : take format.log_bytes (drop 4096 m.seen) ≡ (spelled_groups r.groups ++ s.gate ∷ []) ++ s.rest = sym are ∙ (s.is ∙ sym (append_assoc (spelled_groups r.groups) (s.gate ∷ []) s.rest)) in
+    let has = has_range 4096 format.log_bytes m.seen (spelled_groups r.groups ++ s.gate ∷ []) s.rest there fits in
+    let long : length (spelled_groups r.groups ++ s.gate ∷ []) ≤ format.log_bytes = omega (
       arith,
       length-append (spelled_groups r.groups) (s.gate ∷ []),
       r.end_is,
       r.within,
       ap length are,
-      length-take-le limits.log_bytes (drop 4096 m.seen) (omega (arith, length-drop 4096 m.seen, fits)),
+      length-take-le format.log_bytes (drop 4096 m.seen) (omega (arith, length-drop 4096 m.seen, fits)),
     ) in
     record {
       groups = r.groups;
-      spells = subst (λ (l : List ℕ). SpellsGroups limits l r.groups) are s;
+      spells = subst (λ (l : List ℕ). SpellsGroups format l r.groups) are s;
       images_are = r.images_are;
-      only = λ others is. r.only others (subst (λ (l : List ℕ). SpellsGroups limits l others) (sym are) is);
+      only = λ others is. r.only others (subst (λ (l : List ℕ). SpellsGroups format l others) (sym are) is);
       keeps = λ firm. record {
         alive = alive;
         groups = r.groups;
         waiting = [];
         gate = inl (
           shut,
-          subst (λ (l : Format). IsSettled l 4096 log.at r.groups m) (sym limits_are) (record {
+          subst (λ (l : Format). IsSettled l 4096 log.at r.groups m) (sym format_is) (record {
             good = s.good;
             end = at_is ∙ r.end_is;
             gate = s.gate;
@@ -62,7 +62,7 @@ replayed limits m log bytes images at are fits r limits_are at_is idle alive shu
           }),
         );
         written = λ w. (let both : true ≡ false = sym w ∙ unwritten in absurd cc);
-        waits = none_kept log.limits (waiting_blocks log) (waiting_images log) log.named idle;
+        waits = none_kept log.format (waiting_blocks log) (waiting_images log) log.named idle;
         few = omega arith;
         durable = same_eq _ _ (ap images_of (sym (whole_list r.groups)));
         unforced = same_eq [] _ (sym (ap images_of (drop-length r.groups)));
@@ -70,36 +70,36 @@ replayed limits m log bytes images at are fits r limits_are at_is idle alive shu
     }
 
 -- the images of groups are images
-pub images_good : (limits : Format) (groups : List (List Page)) → AreGroups limits groups → AreImages limits (images_of groups)
-images_good limits [] good = tt
-images_good limits (group ∷ groups) good = all-append (IsImage limits) group (images_of groups) good.0.images (images_good limits groups good.1)
+pub images_good : (format : Format) (groups : List (List Page)) → AreGroups format groups → AreImages format (images_of groups)
+images_good format [] good = tt
+images_good format (group ∷ groups) good = all-append (IsImage format) group (images_of groups) good.0.images (images_good format groups good.1)
 
 -- what was noted of the bytes that were read is what a replay finds
-pub replay_found : (limits : Format) (honest : Bool) (m : DiskMoment) (found : Replayed) (log lasts : List ℕ) (end : ℕ)
-    → AreAllNoted limits log lasts end → log ≡ found.log.buffer.items → lasts ≡ found.lasts.items → (IsTrue honest → log ≡ log_range limits m.seen) → 4096 + limits.log_bytes ≤ length m.seen
-    → found.log.limits ≡ limits → found.log.at ≡ end → waiting_blocks found.log ≡ [] → found.log.stopped ≡ false → found.log.ajar ≡ false → found.log.written ≡ false → IsReplay limits honest m found
-replay_found limits honest m found log lasts end n log_is lasts_are read fits limits_are at_is idle alive shut unwritten = record {
+pub replay_found : (format : Format) (honest : Bool) (m : DiskMoment) (found : Replayed) (log lasts : List ℕ) (end : ℕ)
+    → AreAllNoted format log lasts end → log ≡ found.log.buffer.items → lasts ≡ found.lasts.items → (IsTrue honest → log ≡ log_range format m.seen) → 4096 + format.log_bytes ≤ length m.seen
+    → found.log.format ≡ format → found.log.at ≡ end → waiting_blocks found.log ≡ [] → found.log.stopped ≡ false → found.log.ajar ≡ false → found.log.written ≡ false → IsReplay format honest m found
+replay_found format honest m found log lasts end n log_is lasts_are read fits format_is at_is idle alive shut unwritten = record {
   images = n.images;
-  good = subst (AreImages limits) (sym n.all.images_are) (images_good limits n.all.groups n.all.spells.good);
+  good = subst (AreImages format) (sym n.all.images_are) (images_good format n.all.groups n.all.spells.good);
   lasts = record {
     each = λ block.
         ap (λ (l : List ℕ). bytes_at l (get_or found.lasts.items block 0)) (sym log_is)
         ∙ (ap (λ (l : List ℕ). bytes_at log (get_or l block 0)) (sym lasts_are) ∙ n.noted.each block);
   };
-  replays = λ h. replayed limits m found.log log n.images end (read h) fits n.all limits_are at_is idle alive shut unwritten;
+  replays = λ h. replayed format m found.log log n.images end (read h) fits n.all format_is at_is idle alive shut unwritten;
 }
 
 -- if the first gate isn't open, nothing is found
-pub nothing_found : (limits : Format) (honest : Bool) (m : DiskMoment) (found : Replayed) → 4096 + limits.log_bytes ≤ length m.seen → 65536 ≤ limits.log_bytes → (IsTrue honest → get_or m.seen 4096 0 ≢ 1)
-    → found.lasts.items ≡ [] → found.log.limits ≡ limits → found.log.at ≡ 0 → waiting_blocks found.log ≡ [] → found.log.stopped ≡ false → found.log.ajar ≡ false → found.log.written ≡ false → IsReplay limits honest m found
-nothing_found limits honest m found fits least closed none limits_are at_is idle alive shut unwritten = record {
+pub nothing_found : (format : Format) (honest : Bool) (m : DiskMoment) (found : Replayed) → 4096 + format.log_bytes ≤ length m.seen → 65536 ≤ format.log_bytes → (IsTrue honest → get_or m.seen 4096 0 ≢ 1)
+    → found.lasts.items ≡ [] → found.log.format ≡ format → found.log.at ≡ 0 → waiting_blocks found.log ≡ [] → found.log.stopped ≡ false → found.log.ajar ≡ false → found.log.written ≡ false → IsReplay format honest m found
+nothing_found format honest m found fits least closed none format_is at_is idle alive shut unwritten = record {
   images = [];
   good = tt;
   lasts = record { each = λ block. ap (λ (l : List ℕ). bytes_at found.log.buffer.items (get_or l block 0)) none };
   replays = λ h.
-      let range = log_range limits m.seen in
-      let first : get_or range 0 0 ≡ get_or m.seen 4096 0 = get_or-take limits.log_bytes (drop 4096 m.seen) 0 0 (omega (arith, least)) ∙ get_or-drop 4096 m.seen 0 0 in
-      let long : 4096 ≤ length range = omega (arith, length-take-le limits.log_bytes (drop 4096 m.seen) (omega (arith, length-drop 4096 m.seen, fits)), least) in
-      let none = none_stands limits range long (λ is_open. closed h (sym first ∙ is_open)) in
-      replayed limits m found.log range [] 0 refl fits none limits_are at_is idle alive shut unwritten;
+      let range = log_range format m.seen in
+      let first : get_or range 0 0 ≡ get_or m.seen 4096 0 = get_or-take format.log_bytes (drop 4096 m.seen) 0 0 (omega (arith, least)) ∙ get_or-drop 4096 m.seen 0 0 in
+      let long : 4096 ≤ length range = omega (arith, length-take-le format.log_bytes (drop 4096 m.seen) (omega (arith, length-drop 4096 m.seen, fits)), least) in
+      let none = none_stands format range long (λ is_open. closed h (sym first ∙ is_open)) in
+      replayed format m found.log range [] 0 refl fits none format_is at_is idle alive shut unwritten;
 }

@@ -32,17 +32,17 @@ module _ (at : ℕ) (t : Trace) (inside : at + 1 ≤ length t.now.seen) where
 
 -- while the first gate is closed a crash leaves the actions that were there, or nothing
 pub reset_goes : (log : Log) (old new : Trace) (acts : List (List Page)) (forced : ℕ) → LogHolds log old.now acts forced → is_ajar log ≡ false → 0 < log.at → AtEachMoment (ChangesOnly 4096 1 old.now) old new
-    → AtEachMoment (RestartsOrEmpty log.limits (take forced acts)) old new
+    → AtEachMoment (RestartsOrEmpty log.format (take forced acts)) old new
 reset_goes log old new acts forced k shut some gone =
     let s = shut_gate log old.now acts forced k shut in
     goes_weaker _ _ old new (λ n only image left. ⊎_elim
     (λ s'. inl (record { groups = k.groups; spells = s'; same = k.durable }))
     (λ s'. inr (record { groups = []; spells = s'; same = same_refl [] }))
-    (resetting log.limits 4096 log.limits.log_bytes k.groups s.gate old.now n s.good s.closed s.on_disk
+    (resetting log.format 4096 log.format.log_bytes k.groups s.gate old.now n s.good s.closed s.on_disk
     (omega (arith, some, s.end)) (omega (arith, log.room, s.end)) only image left)) gone
 
-pub in_range : (log : Log) (old new : Trace) → AtEachMoment (ChangesOnly 4096 1 old.now) old new → AtEachMoment (ChangesOnly 4096 log.limits.log_bytes old.now) old new
-in_range log old new gone = goes_weaker _ _ old new (λ n only. only_wider 4096 1 4096 log.limits.log_bytes old.now n (omega arith) (omega (arith, log.least)) only) gone
+pub in_range : (log : Log) (old new : Trace) → AtEachMoment (ChangesOnly 4096 1 old.now) old new → AtEachMoment (ChangesOnly 4096 log.format.log_bytes old.now) old new
+in_range log old new gone = goes_weaker _ _ old new (λ n only. only_wider 4096 1 4096 log.format.log_bytes old.now n (omega arith) (omega (arith, log.least)) only) gone
 
 -- with no group on the disk what is kept waits
 no_groups : (gs : List (List Page)) → length (spelled_groups gs) ≡ 0 → gs ≡ []

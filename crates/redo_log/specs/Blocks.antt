@@ -47,9 +47,9 @@ with_images laid [] = laid
 with_images laid (p ∷ ps) = with_images (with_image laid p) ps
 
 -- the list is these images, one of each of the blocks
-pub record AreOfBlocks (limits : Format) (order : List ℕ) (list kept : List Page) : Type 0 where
+pub record AreOfBlocks (format : Format) (order : List ℕ) (list kept : List Page) : Type 0 where
   pub counted : length kept ≡ length order
-  pub images : AreImages limits kept
+  pub images : AreImages format kept
   pub blocks : image_blocks kept ≡ order
   pub same : list ≡ kept
 
@@ -58,5 +58,5 @@ abbrev pub AreLaid : ℕ → List Page → List ℕ → Type 0
 AreLaid count images buffer = take (4096 * count) (drop 4 buffer) ≡ images_bytes (take count images)
 
 -- if there is one, the buffer has room for their number and for so many images, and a byte behind them
-abbrev pub ReachesBehind : ℕ → List ℕ → Type 0
-ReachesBehind count buffer = 0 < count → 5 + 4096 * count ≤ length buffer
+abbrev pub ReachesPast : ℕ → List ℕ → Type 0
+ReachesPast count buffer = 0 < count → 5 + 4096 * count ≤ length buffer

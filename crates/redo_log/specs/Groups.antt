@@ -12,29 +12,29 @@ use Rattle.redo_log.specs.Images.{images_bytes}
 
 -- its block is below the number of pages, it has no more items than a page may, and is of a layout that the
 -- index may have
-pub record IsWithin (limits : Format) (p : Page) : Type 0 where
-  pub block : p.block < limits.pages
-  pub items : count_of p.items ≤ limits.items
-  pub layout : Admits limits.layout p.layout
+pub record IsWithin (format : Format) (p : Page) : Type 0 where
+  pub block : p.block < format.pages
+  pub items : count_of p.items ≤ format.items
+  pub layout : Admits format.layout p.layout
 
 -- a page that an index of these limits may have
-pub record IsImage (limits : Format) (p : Page) : Type 0 where
+pub record IsImage (format : Format) (p : Page) : Type 0 where
   pub page : IsPage p
-  pub within : IsWithin limits p
+  pub within : IsWithin format p
 
 -- each of them is an image
 abbrev pub AreImages : Format → List Page → Type 0
-AreImages limits ps = AllByRecursion (IsImage limits) ps
+AreImages format ps = AllByRecursion (IsImage format) ps
 
 -- one image or more, whose number fits into its place
-pub record IsGroup (limits : Format) (group : List Page) : Type 0 where
+pub record IsGroup (format : Format) (group : List Page) : Type 0 where
   pub some : 0 < length group
   pub few : length group < 2 ^ 32
-  pub images : AreImages limits group
+  pub images : AreImages format group
 
 -- each of them is a group
 abbrev pub AreGroups : Format → List (List Page) → Type 0
-AreGroups limits groups = AllByRecursion (IsGroup limits) groups
+AreGroups format groups = AllByRecursion (IsGroup format) groups
 
 -- the number of images and the images
 abbrev pub body : List Page → List ℕ
@@ -46,9 +46,9 @@ spelled_groups [] = []
 spelled_groups (group ∷ groups) = 1 ∷ body group ++ spelled_groups groups
 
 -- the bytes are these groups, open, then a gate that isn't 1, and anything
-pub record SpellsGroups (limits : Format) (bytes : List ℕ) (groups : List (List Page))
+pub record SpellsGroups (format : Format) (bytes : List ℕ) (groups : List (List Page))
     : Type 0 where
-  pub good : AreGroups limits groups
+  pub good : AreGroups format groups
   pub gate : ℕ
   pub closed : gate ≢ 1
   pub rest : List ℕ
@@ -56,7 +56,7 @@ pub record SpellsGroups (limits : Format) (bytes : List ℕ) (groups : List (Lis
 
 -- the log's range of a device
 abbrev pub log_range : Format → List ℕ → List ℕ
-log_range limits file = take limits.log_bytes (drop log_start file)
+log_range format file = take format.log_bytes (drop log_start file)
 
 -- the log's first gate isn't open on this device
 abbrev pub IsClosedAtStart : List ℕ → Type 0

@@ -14,8 +14,8 @@ use Rattle.redo_log.specs.Blocks.{AreOfBlocks}
 use Rattle.redo_log.specs.declared.log.Log.{Log}
 
 -- the sizes that it was made with
-abbrev pub limits_of : Log → Format
-limits_of log = log.limits
+abbrev pub format_of : Log → Format
+format_of log = log.format
 
 -- a write or sync of it failed before
 abbrev pub is_stopped : Log → Bool
@@ -63,7 +63,7 @@ end_with log n = log.at + (6 + 4096 * (waiting_count log + n))
 
 -- n images more would fit
 abbrev pub ImagesFit : Log → ℕ → Type 0
-ImagesFit log n = end_with log n ≤ log.limits.log_bytes
+ImagesFit log n = end_with log n ≤ log.format.log_bytes
 
 -- it is stopped, or the greatest number was given
 abbrev pub TakesNoMore : Log → Type 0
@@ -71,7 +71,7 @@ TakesNoMore log = (is_stopped log ≡ true) ⊎ (actions_of log ≡ 2 ^ 64 - 1)
 
 -- it has the same sizes and the same number of actions
 pub record SameLog (old new : Log) : Type 0 where
-  pub limits : limits_of new ≡ limits_of old
+  pub format : format_of new ≡ format_of old
   pub actions : actions_of new ≡ actions_of old
 
 -- it is as it was, but for how much is laid out for a force
@@ -91,9 +91,9 @@ IoOrStopped result was_stopped old new = MatchResult result (λ _. new ≡ old)
     (λ e. ((e ≡ Io) × (new ≡ suc old)) ⊎ ((e ≡ Stopped) × (was_stopped ≡ true) × (new ≡ old)))
 
 -- its groups stand on the disk, and after them a gate that isn't 1
-pub record IsSettled (limits : Format) (start at : ℕ) (groups : List (List Page)) (m : DiskMoment)
+pub record IsSettled (format : Format) (start at : ℕ) (groups : List (List Page)) (m : DiskMoment)
     : Type 0 where
-  pub good : AreGroups limits groups
+  pub good : AreGroups format groups
   pub end : at ≡ length (spelled_groups groups)
   pub gate : ℕ
   pub closed : gate ≢ 1
@@ -101,18 +101,18 @@ pub record IsSettled (limits : Format) (start at : ℕ) (groups : List (List Pag
 
 -- Its groups stand on the disk. A group stands after them, and no crash changes that. The gate between may
 -- be open or not.
-pub record IsAjar (limits : Format) (start at : ℕ) (groups : List (List Page)) (group : List Page) (m : DiskMoment)
+pub record IsAjar (format : Format) (start at : ℕ) (groups : List (List Page)) (group : List Page) (m : DiskMoment)
     : Type 0 where
-  pub good : AreGroups limits groups
-  pub one : IsGroup limits group
-  pub room : at + (6 + 4096 * length group) ≤ limits.log_bytes
+  pub good : AreGroups format groups
+  pub one : IsGroup format group
+  pub room : at + (6 + 4096 * length group) ≤ format.log_bytes
   pub end : at ≡ length (spelled_groups groups)
   pub front : OnDisk start (spelled_groups groups) m
-  pub behind : OnDisk (start + at + 1) (body group ++ 0 ∷ []) m
+  pub after : OnDisk (start + at + 1) (body group ++ 0 ∷ []) m
 
 -- these images wait, one of each block that waits
 abbrev pub Waits : Log → List Page → Type 0
-Waits log waiting = AreOfBlocks log.limits (waiting_blocks log) (waiting_images log) waiting
+Waits log waiting = AreOfBlocks log.format (waiting_blocks log) (waiting_images log) waiting
 
 -- A group stands after a gate that may be open. Its images and those of the groups are the last ones of a
 -- part of the actions, which has every one that was forced. If nothing was appended since, it is all that
@@ -120,7 +120,7 @@ Waits log waiting = AreOfBlocks log.limits (waiting_blocks log) (waiting_images 
 pub record MayBeLetIn (log : Log) (m : DiskMoment) (acts : List (List Page)) (forced : ℕ) (groups : List (List Page)) (waiting : List Page)
     : Type 0 where
   pub group : List Page
-  pub ajar : IsAjar log.limits log_start log.at groups group m
+  pub ajar : IsAjar log.format log_start log.at groups group m
   pub part : ℕ
   pub from : forced ≤ part
   pub to : part ≤ length acts
@@ -133,7 +133,7 @@ pub record LogHolds (log : Log) (m : DiskMoment) (acts : List (List Page)) (forc
   pub alive : log.stopped ≡ false
   pub groups : List (List Page)
   pub waiting : List Page
-  pub gate : ((is_ajar log ≡ false) × IsSettled log.limits log_start log.at groups m)
+  pub gate : ((is_ajar log ≡ false) × IsSettled log.format log_start log.at groups m)
       ⊎ ((is_ajar log ≡ true) × MayBeLetIn log m acts forced groups waiting)
   pub written : is_written log ≡ true → Has (log_start + log.at + 1) (body waiting ++ 0 ∷ []) m.seen
   pub waits : Waits log waiting
@@ -143,28 +143,28 @@ pub record LogHolds (log : Log) (m : DiskMoment) (acts : List (List Page)) (forc
 
 -- a replay of these bytes gives for each block the last image that these actions have of it, and nothing for
 -- a block that they don't name
-pub record Holds (limits : Format) (image : List ℕ) (acts : List (List Page)) : Type 0 where
+pub record Holds (format : Format) (image : List ℕ) (acts : List (List Page)) : Type 0 where
   pub groups : List (List Page)
-  pub spells : SpellsGroups limits (log_range limits image) groups
+  pub spells : SpellsGroups format (log_range format image) groups
   pub same : SameImages (images_of groups) (images_of acts)
 
 -- the bytes hold some prefix of the actions with every forced one
-pub record HoldsFirst (limits : Format) (acts : List (List Page)) (forced : ℕ) (image : List ℕ)
+pub record HoldsFirst (format : Format) (acts : List (List Page)) (forced : ℕ) (image : List ℕ)
     : Type 0 where
   pub part : ℕ
   pub from : forced ≤ part
   pub to : part ≤ length acts
-  pub holds : Holds limits image (take part acts)
+  pub holds : Holds format image (take part acts)
 
 -- a crash at this moment leaves some prefix of the actions with every forced one
 abbrev pub Restarts : Format → List (List Page) → ℕ → DiskMoment → Type 0
-Restarts limits acts forced m =
-    (image : List ℕ) → MayCrashTo m image → HoldsFirst limits acts forced image
+Restarts format acts forced m =
+    (image : List ℕ) → MayCrashTo m image → HoldsFirst format acts forced image
 
 -- a crash at this moment leaves these actions, or nothing
 abbrev pub RestartsOrEmpty : Format → List (List Page) → DiskMoment → Type 0
-RestartsOrEmpty limits acts m =
-    (image : List ℕ) → MayCrashTo m image → Holds limits image acts ⊎ Holds limits image []
+RestartsOrEmpty format acts m =
+    (image : List ℕ) → MayCrashTo m image → Holds format image acts ⊎ Holds format image []
 
 -- whatever actions the log kept, it keeps these images as one more, which isn't forced
 abbrev pub AddsAction : List Page → Log → Log → Type 0
@@ -190,29 +190,29 @@ ForgetsForced old before new after = (acts : List (List Page)) (forced : ℕ)
 -- every one that was forced at the beginning
 abbrev pub RestartsThroughout : Log → Trace → Trace → Type 0
 RestartsThroughout log old new = (acts : List (List Page)) (forced : ℕ)
-    → LogHolds log old.now acts forced → AtEachMoment (Restarts (limits_of log) acts forced) old new
+    → LogHolds log old.now acts forced → AtEachMoment (Restarts (format_of log) acts forced) old new
 
 -- a crash at each moment in between leaves the forced actions that the log kept, or none
 abbrev pub RestartsOrEmptyThroughout : Log → Trace → Trace → Type 0
 RestartsOrEmptyThroughout log old new = (acts : List (List Page)) (forced : ℕ)
     → LogHolds log old.now acts forced
-    → AtEachMoment (RestartsOrEmpty (limits_of log) (take forced acts)) old new
+    → AtEachMoment (RestartsOrEmpty (format_of log) (take forced acts)) old new
 
 -- at each moment in between nothing but the log's range has changed
 abbrev pub ChangesItsRange : Format → Trace → Trace → Type 0
-ChangesItsRange limits old new = AtEachMoment (ChangesOnly log_start limits.log_bytes old.now) old new
+ChangesItsRange format old new = AtEachMoment (ChangesOnly log_start format.log_bytes old.now) old new
 
 -- nothing in the log's range has changed, and no crash changes more of it
 abbrev pub RangeIsUntouched : Format → DiskMoment → DiskMoment → Type 0
-RangeIsUntouched limits old new = IsUntouched log_start limits.log_bytes old new
+RangeIsUntouched format old new = IsUntouched log_start format.log_bytes old new
 
 -- whatever actions the log keeps at one moment, it keeps at each at which its range is untouched
 abbrev pub KeepsWhileUntouched : Log → Type 0
 KeepsWhileUntouched log = (old new : DiskMoment) (acts : List (List Page)) (forced : ℕ)
-    → RangeIsUntouched (limits_of log) old new
+    → RangeIsUntouched (format_of log) old new
     → LogHolds log old acts forced → LogHolds log new acts forced
 
 -- whatever actions the log keeps, a crash leaves a prefix of them with every forced one
 abbrev pub WhatItKeepsRestarts : Log → Type 0
 WhatItKeepsRestarts log = (m : DiskMoment) (acts : List (List Page)) (forced : ℕ)
-    → LogHolds log m acts forced → Restarts (limits_of log) acts forced m
+    → LogHolds log m acts forced → Restarts (format_of log) acts forced m

@@ -39,12 +39,12 @@ pub enum Advance {
 }
 
 impl Log {
-    ghost use Rattle.redo_log.specs.Kept.{limits_of, is_stopped, is_written, is_ajar, actions_of, waiting_count, waiting_blocks, waiting_images, laid_count, groups_end, end_with, IsLaid};
+    ghost use Rattle.redo_log.specs.Kept.{format_of, is_stopped, is_written, is_ajar, actions_of, waiting_count, waiting_blocks, waiting_images, laid_count, groups_end, end_with, IsLaid};
     ghost use Rattle.redo_log.specs.Kept.{KeepsActions, ForcesAll, RestartsThroughout, SameLog, ChangesItsRange, IoOrStopped};
 
     // Closes the gate if it may be open: the group after it is out of date.
     fn shut_gate<D: Device>(&mut self, device: &mut D) -> Result<(), Fault>
-        requires range { log_end (limits_of self.old) ≤ length (D.trace device.old).now.seen }
+        requires range { log_end (format_of self.old) ≤ length (D.trace device.old).now.seen }
         requires alive { is_stopped self.old ≡ false }
         requires changed { is_written self.old ≡ false }
         ensures keeps { OnOk result
@@ -58,7 +58,7 @@ impl Log {
         ensures end { groups_end self.new ≡ groups_end self.old }
         ensures same { SameLog self.old self.new }
         ensures stopped { is_stopped self.new ≡ is_err result }
-        ensures outside { ChangesItsRange (limits_of self.old)
+        ensures outside { ChangesItsRange (format_of self.old)
             (D.trace device.old) (D.trace device.new) }
         ensures len { length (D.trace device.new).now.seen ≡ length (D.trace device.old).now.seen }
         ensures honest { D.is_honest device.new ≡ D.is_honest device.old }
@@ -76,7 +76,7 @@ impl Log {
 
     // Writes the group that waits after its gate, which is closed.
     fn write_body<D: Device>(&mut self, device: &mut D) -> Result<(), Fault>
-        requires range { log_end (limits_of self.old) ≤ length (D.trace device.old).now.seen }
+        requires range { log_end (format_of self.old) ≤ length (D.trace device.old).now.seen }
         requires alive { is_stopped self.old ≡ false }
         requires shut { is_ajar self.old ≡ false }
         requires some { 0 < waiting_count self.old }
@@ -91,7 +91,7 @@ impl Log {
         ensures end { groups_end self.new ≡ groups_end self.old }
         ensures same { SameLog self.old self.new }
         ensures stopped { is_stopped self.new ≡ is_err result }
-        ensures outside { ChangesItsRange (limits_of self.old)
+        ensures outside { ChangesItsRange (format_of self.old)
             (D.trace device.old) (D.trace device.new) }
         ensures len { length (D.trace device.new).now.seen ≡ length (D.trace device.old).now.seen }
         ensures honest { D.is_honest device.new ≡ D.is_honest device.old }
@@ -110,7 +110,7 @@ impl Log {
     // Writes the group that waits after its gate, which stays closed, if that isn't done. Answers whether a
     // group stands there: if not, none waits.
     fn write_group<D: Device>(&mut self, device: &mut D) -> Result<bool, Fault>
-        requires range { log_end (limits_of self.old) ≤ length (D.trace device.old).now.seen }
+        requires range { log_end (format_of self.old) ≤ length (D.trace device.old).now.seen }
         requires laid { IsLaid self.old }
         ensures keeps { OnOk result
             (KeepsActions self.old (D.trace device.old).now self.new (D.trace device.new).now) }
@@ -122,7 +122,7 @@ impl Log {
         ensures end { groups_end self.new ≡ groups_end self.old }
         ensures same { SameLog self.old self.new }
         ensures stopped { is_stopped self.new ≡ is_err result }
-        ensures outside { ChangesItsRange (limits_of self.old)
+        ensures outside { ChangesItsRange (format_of self.old)
             (D.trace device.old) (D.trace device.new) }
         ensures len { length (D.trace device.new).now.seen ≡ length (D.trace device.old).now.seen }
         ensures honest { D.is_honest device.new ≡ D.is_honest device.old }
@@ -149,7 +149,7 @@ impl Log {
     // Syncs the group that was written, and opens its gate, if that isn't done and nothing was appended
     // since. Answers whether that is so.
     fn open_gate<D: Device>(&mut self, device: &mut D) -> Result<bool, Fault>
-        requires range { log_end (limits_of self.old) ≤ length (D.trace device.old).now.seen }
+        requires range { log_end (format_of self.old) ≤ length (D.trace device.old).now.seen }
         ensures keeps { OnOk result
             (KeepsActions self.old (D.trace device.old).now self.new (D.trace device.new).now) }
         ensures moments { RestartsThroughout self.old (D.trace device.old) (D.trace device.new) }
@@ -161,7 +161,7 @@ impl Log {
         ensures end { groups_end self.new ≡ groups_end self.old }
         ensures same { SameLog self.old self.new }
         ensures stopped { is_stopped self.new ≡ is_err result }
-        ensures outside { ChangesItsRange (limits_of self.old)
+        ensures outside { ChangesItsRange (format_of self.old)
             (D.trace device.old) (D.trace device.new) }
         ensures len { length (D.trace device.new).now.seen ≡ length (D.trace device.old).now.seen }
         ensures honest { D.is_honest device.new ≡ D.is_honest device.old }
@@ -194,7 +194,7 @@ impl Log {
     /// Refused with `Io` (2) if a device call fails: the log is stopped then. Refused with `Stopped` (3) on a
     /// stopped log.
     pub fn advance<D: Device>(&mut self, device: &mut D) -> Result<Advance, Fault>
-        requires range { log_end (limits_of self.old) ≤ length (D.trace device.old).now.seen }
+        requires range { log_end (format_of self.old) ≤ length (D.trace device.old).now.seen }
         requires laid { IsLaid self.old }
         ensures keeps { OnOk result
             (KeepsActions self.old (D.trace device.old).now self.new (D.trace device.new).now) }
@@ -208,7 +208,7 @@ impl Log {
         ensures end { groups_end self.new ≡ groups_end self.old }
         ensures same { SameLog self.old self.new }
         ensures stopped { is_stopped self.new ≡ is_err result }
-        ensures outside { ChangesItsRange (limits_of self.old)
+        ensures outside { ChangesItsRange (format_of self.old)
             (D.trace device.old) (D.trace device.new) }
         ensures len { length (D.trace device.new).now.seen ≡ length (D.trace device.old).now.seen }
         ensures honest { D.is_honest device.new ≡ D.is_honest device.old }
@@ -229,7 +229,7 @@ impl Log {
 
     // Syncs the gate of the group that waits, which is open: all is durable then.
     fn settle<D: Device>(&mut self, device: &mut D) -> Result<u64, Fault>
-        requires range { log_end (limits_of self.old) ≤ length (D.trace device.old).now.seen }
+        requires range { log_end (format_of self.old) ≤ length (D.trace device.old).now.seen }
         requires alive { is_stopped self.old ≡ false }
         requires written { is_written self.old ≡ true }
         requires ajar { is_ajar self.old ≡ true }
@@ -246,7 +246,7 @@ impl Log {
         ensures refused { OnErr result ((n : ℕ) → end_with self.new n ≡ end_with self.old n) }
         ensures same { SameLog self.old self.new }
         ensures stopped { is_stopped self.new ≡ is_err result }
-        ensures outside { ChangesItsRange (limits_of self.old)
+        ensures outside { ChangesItsRange (format_of self.old)
             (D.trace device.old) (D.trace device.new) }
         ensures len { length (D.trace device.new).now.seen ≡ length (D.trace device.old).now.seen }
         ensures honest { D.is_honest device.new ≡ D.is_honest device.old }
@@ -272,7 +272,7 @@ impl Log {
     /// Refused with `Io` (2) if a device call fails: the log is stopped then. Refused with `Stopped` (3) on a
     /// stopped log.
     pub fn force<D: Device>(&mut self, device: &mut D) -> Result<u64, Fault>
-        requires range { log_end (limits_of self.old) ≤ length (D.trace device.old).now.seen }
+        requires range { log_end (format_of self.old) ≤ length (D.trace device.old).now.seen }
         requires laid { IsLaid self.old }
 
         ensures keeps { OnOk result
@@ -290,7 +290,7 @@ impl Log {
         ensures same { SameLog self.old self.new }
         ensures stopped { is_stopped self.new ≡ is_err result }
 
-        ensures outside { ChangesItsRange (limits_of self.old)
+        ensures outside { ChangesItsRange (format_of self.old)
             (D.trace device.old) (D.trace device.new) }
         ensures len { length (D.trace device.new).now.seen ≡ length (D.trace device.old).now.seen }
         ensures honest { D.is_honest device.new ≡ D.is_honest device.old }

@@ -8,31 +8,31 @@ use page_codec::{Page, is_page};
 
 /// Whether its block and the number of its items are within these limits, and an index of this format may
 /// have its layout.
-pub(crate) fn is_within(limits: &Format, page: &Page) -> bool
-    ensures { IsTrue result ↔ IsWithin limits.now page.now }
+pub(crate) fn is_within(format: &Format, page: &Page) -> bool
+    ensures { IsTrue result ↔ IsWithin format.now page.now }
 {
-    page.block < limits.pages
-        && page.items.len() <= limits.items as usize
-        && limits.admits(page.layout)
+    page.block < format.pages
+        && page.items.len() <= format.items as usize
+        && format.admits(page.layout)
 }
 
 /// Whether the page is one that an index of these limits may have.
-fn is_image(limits: &Format, page: &Page) -> bool
-    ensures { IsTrue result ↔ IsImage limits.now page.now }
+fn is_image(format: &Format, page: &Page) -> bool
+    ensures { IsTrue result ↔ IsImage format.now page.now }
 {
-    is_page(page) && is_within(limits, page)
+    is_page(page) && is_within(format, page)
 }
 
 /// Whether each page is one that an index of these limits may have, so that its log takes it.
-pub fn are_images(limits: &Format, pages: &[Page]) -> bool
-    ensures { IsTrue result ↔ AreImages limits.now pages.now }
+pub fn are_images(format: &Format, pages: &[Page]) -> bool
+    ensures { IsTrue result ↔ AreImages format.now pages.now }
 {
     let mut rest = pages;
-    while let [page, behind @ ..] = rest {
-        if !is_image(limits, page) {
+    while let [page, later @ ..] = rest {
+        if !is_image(format, page) {
             return false;
         }
-        rest = behind;
+        rest = later;
     }
     true
 }

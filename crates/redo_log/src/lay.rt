@@ -3,7 +3,7 @@
 ghost use Rattle.std.specs.Prelude.{◌≡◌, suc, ◌+◌, ◌*◌, ◌≤◌, [], ◌∷◌, ◌++◌, length, take, drop, vec_capacity};
 ghost use Rattle.std.specs.Int.{w32, to_le_bytes};
 ghost use Rattle.page_codec.specs.Spelling.{page_bytes};
-ghost use Rattle.redo_log.specs.Blocks.{ReachesBehind};
+ghost use Rattle.redo_log.specs.Blocks.{ReachesPast};
 
 use page_codec::{Page, encode};
 
@@ -11,10 +11,10 @@ use page_codec::{Page, encode};
 /// with them, inside of its capacity.
 pub(crate) fn lay_image(buffer: &mut Vec<u8>, count: usize, image: &Page)
     requires reserved { 5 + 4096 * suc count ≤ vec_capacity buffer.old }
-    requires reaches { ReachesBehind count buffer.old.items }
+    requires reaches { ReachesPast count buffer.old.items }
     ensures laid { take (4096 * suc count) (drop 4 buffer.new.items)
         ≡ take (4096 * count) (drop 4 buffer.old.items) ++ page_bytes image.now }
-    ensures reached { ReachesBehind (suc count) buffer.new.items }
+    ensures reached { ReachesPast (suc count) buffer.new.items }
     ensures capacity { vec_capacity buffer.old ≤ vec_capacity buffer.new }
 {
     let at = 4 + 4096 * count;

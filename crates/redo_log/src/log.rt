@@ -8,7 +8,7 @@ ghost use Rattle.device.specs.Disk.{DiskMoment, CountsFailures};
 ghost use Rattle.redo_log.specs.Groups.{AreImages, IsClosedAtStart};
 ghost use Rattle.page_codec.specs.declared.page.Page.{Page};
 ghost use Rattle.page_codec.specs.Spelling.{page_bytes};
-ghost use Rattle.redo_log.specs.Blocks.{image_blocks, with_blocks, with_images, new_count, AreLaid, ReachesBehind};
+ghost use Rattle.redo_log.specs.Blocks.{image_blocks, with_blocks, with_images, new_count, AreLaid, ReachesPast};
 
 use crate::gate::shut;
 use crate::image_list::ImageList;
@@ -24,7 +24,7 @@ use std::alloc::Global;
 /// opened, and is used as images are laid out for a force.
 #[derive(Drop)]
 pub struct Log {
-    pub(crate) limits: Format,
+    pub(crate) format: Format,
     /// Where the next group goes.
     pub(crate) at: usize,
     pub(crate) actions: u64,
@@ -42,33 +42,33 @@ pub struct Log {
     /// The group that waits: room for the number, and its images, as far as they are laid out. What it has no
     /// images for it doesn't have as yet, inside of its capacity.
     pub(crate) buffer: Vec<u8>,
-    ghost least: { 65536 ≤ limits.log_bytes },
-    ghost most: { limits.log_bytes ≤ 16777216 },
-    ghost reserved: { limits.log_bytes ≤ vec_capacity buffer },
+    ghost least: { 65536 ≤ format.log_bytes },
+    ghost most: { format.log_bytes ≤ 16777216 },
+    ghost reserved: { format.log_bytes ≤ vec_capacity buffer },
     ghost named: { image_blocks images.images ≡ waiting.blocks.items },
     ghost few_laid: { laid ≤ length waiting.blocks.items },
     ghost laid_out: { AreLaid laid images.images buffer.items },
-    ghost reaches: { ReachesBehind laid buffer.items },
-    ghost room: { at + 1 ≤ limits.log_bytes },
+    ghost reaches: { ReachesPast laid buffer.items },
+    ghost room: { at + 1 ≤ format.log_bytes },
     ghost fits: { 0 < length waiting.blocks.items
-        → at + (6 + 4096 * length waiting.blocks.items) ≤ limits.log_bytes },
+        → at + (6 + 4096 * length waiting.blocks.items) ≤ format.log_bytes },
     ghost some_written: { written ≡ true → 0 < length waiting.blocks.items },
     ghost some_ajar: { ajar ≡ true → 0 < length waiting.blocks.items },
-    ghost tabled: { length waiting.places.items ≡ limits.pages },
-    ghost listed: { limits.log_bytes / 4096 ≤ vec_capacity waiting.blocks },
+    ghost tabled: { length waiting.places.items ≡ format.pages },
+    ghost listed: { format.log_bytes / 4096 ≤ vec_capacity waiting.blocks },
 }
 
 impl Log {
     ghost use Rattle.std.specs.Prelude.{Some, IfSome, IfNone, slice_get};
-    ghost use Rattle.redo_log.specs.Kept.{limits_of, is_stopped, is_ajar, is_written, actions_of, waiting_count, waiting_blocks, waiting_images, laid_count, groups_end, end_with, ImagesFit, TakesNoMore};
+    ghost use Rattle.redo_log.specs.Kept.{format_of, is_stopped, is_ajar, is_written, actions_of, waiting_count, waiting_blocks, waiting_images, laid_count, groups_end, end_with, ImagesFit, TakesNoMore};
     ghost use Rattle.redo_log.specs.Kept.{AddsAction, KeepsActions, IsLaid, WaitsAlike, ForgetsForced, RestartsOrEmptyThroughout, SameLog, ChangesItsRange, KeepsWhileUntouched, WhatItKeepsRestarts, IoOrStopped};
     ghost use Rattle.redo_log.specs.Reading.{IsReplay, IsOpened, IsDamaged, ReplayFails};
 
     /// The sizes that it was opened with.
-    pub fn limits(&self) -> Format
-        ensures { result ≡ limits_of self.now }
+    pub fn format(&self) -> Format
+        ensures { result ≡ format_of self.now }
     {
-        self.limits
+        self.format
     }
 
     /// Whether a write or sync of it failed before.
@@ -90,14 +90,14 @@ impl Log {
         ensures fit { (n : ℕ) → 0 < n → n ≤ result → ImagesFit self.now n }
         ensures no_more { (n : ℕ) → result < n → ¬ ImagesFit self.now n }
     {
-        let left = self.limits.log_bytes - self.at as u32;
+        let left = self.format.log_bytes - self.at as u32;
         left.saturating_sub(6) / 4096 - self.waiting.count()
     }
 
     /// Whether the images fit beside those that wait, one for each block. Those of blocks that wait
     /// take no room.
     fn fits(&self, images: &[Page]) -> bool
-        requires { AreImages (limits_of self.now) images.now }
+        requires { AreImages (format_of self.now) images.now }
         ensures fit { OnTrue result (0 < new_count (waiting_blocks self.now) images.now
             → ImagesFit self.now (new_count (waiting_blocks self.now) images.now)) }
         ensures full { OnFalse result
@@ -117,7 +117,7 @@ impl Log {
     /// if the images of blocks that don't wait don't fit after those that wait (`LogFull`, 9), which is never
     /// so up to `room()` of them.
     pub fn append(&mut self, images: &[Page]) -> Result<u64, Fault>
-        requires images { AreImages (limits_of self.old) images.now }
+        requires images { AreImages (format_of self.old) images.now }
 
         ensures keeps { OnOk result (AddsAction images.now self.old self.new) }
         ensures number { IfOk result (λ n. n ≡ suc (actions_of self.old)) }
@@ -131,7 +131,7 @@ impl Log {
         // An image of a block that waits takes no room.
         ensures waiting { OnOk result (waiting_count self.new
             ≡ waiting_count self.old + new_count (waiting_blocks self.old) images.now) }
-        ensures limits { limits_of self.new ≡ limits_of self.old }
+        ensures format { format_of self.new ≡ format_of self.old }
         ensures stopped { is_stopped self.new ≡ is_stopped self.old }
 
         ensures err { OnErr result (self.new ≡ self.old) }
@@ -195,7 +195,7 @@ impl Log {
     /// Refused with `Io` (2) if a device call fails: the log is stopped then. Refused with `Stopped` (3) on a
     /// stopped log.
     pub fn reset<D: Device>(&mut self, device: &mut D) -> Result<(), Fault>
-        requires range { log_end (limits_of self.old) ≤ length (D.trace device.old).now.seen }
+        requires range { log_end (format_of self.old) ≤ length (D.trace device.old).now.seen }
         requires shut { is_ajar self.old ≡ false }
 
         ensures keeps { OnOk result
@@ -212,7 +212,7 @@ impl Log {
         ensures same { SameLog self.old self.new }
         ensures stopped { is_stopped self.new ≡ is_err result }
 
-        ensures outside { ChangesItsRange (limits_of self.old)
+        ensures outside { ChangesItsRange (format_of self.old)
             (D.trace device.old) (D.trace device.new) }
         ensures len { length (D.trace device.new).now.seen ≡ length (D.trace device.old).now.seen }
         ensures honest { D.is_honest device.new ≡ D.is_honest device.old }
@@ -237,22 +237,22 @@ impl Log {
     }
 
     // A log of so many bytes, of whose groups the last one ends there. Nothing waits in it.
-    fn opened(alloc: Global, limits: Format, at: usize, buffer: Vec<u8>) -> Result<Log, Fault>
-        requires limits { AreLimits limits }
-        requires room { at + 1 ≤ limits.log_bytes }
-        requires reserved { limits.log_bytes ≤ vec_capacity buffer }
-        ensures opened { IfOk result (IsOpened limits) }
+    fn opened(alloc: Global, format: Format, at: usize, buffer: Vec<u8>) -> Result<Log, Fault>
+        requires format { AreLimits format }
+        requires room { at + 1 ≤ format.log_bytes }
+        requires reserved { format.log_bytes ≤ vec_capacity buffer }
+        ensures opened { IfOk result (IsOpened format) }
         ensures idle { IfOk result (λ log. waiting_blocks log ≡ []) }
         ensures shut { IfOk result (λ log. (is_ajar log ≡ false) × (is_written log ≡ false)) }
         ensures end { IfOk result (λ log. groups_end log ≡ at) }
         ensures buffer { IfOk result (λ log. log.buffer ≡ buffer) }
         ensures cause { IfErr result (λ e. e ≡ Fault.NoMemory) }
     {
-        let Ok(waiting) = Waiting::new(alloc, limits.pages, limits.log_bytes / 4096) else {
+        let Ok(waiting) = Waiting::new(alloc, format.pages, format.log_bytes / 4096) else {
             return Err(Fault::NoMemory);
         };
         Ok(Log {
-            limits,
+            format,
             at,
             actions: 0,
             stopped: false,
@@ -266,19 +266,19 @@ impl Log {
     }
 
     // Opens a log whose first gate isn't open. Its room is kept free, and nothing of it is touched.
-    fn replay_none(alloc: Global, limits: Format) -> Result<Replayed, Fault>
-        requires limits { AreLimits limits }
+    fn replay_none(alloc: Global, format: Format) -> Result<Replayed, Fault>
+        requires format { AreLimits format }
         ensures ok { IfOk result (λ found. (honest : Bool) (m : DiskMoment)
-            → log_end limits ≤ length m.seen
-            → (IsTrue honest → IsClosedAtStart m.seen) → IsReplay limits honest m found) }
-        ensures opened { IfOk result (λ r. IsOpened limits r.log) }
+            → log_end format ≤ length m.seen
+            → (IsTrue honest → IsClosedAtStart m.seen) → IsReplay format honest m found) }
+        ensures opened { IfOk result (λ r. IsOpened format r.log) }
         ensures cause { IfErr result (λ e. e ≡ Fault.NoMemory) }
     {
-        let Ok(buffer) = Vec::with_capacity(alloc, limits.log_bytes as usize) else {
+        let Ok(buffer) = Vec::with_capacity(alloc, format.log_bytes as usize) else {
             return Err(Fault::NoMemory);
         };
         Ok(Replayed {
-            log: Log::opened(alloc, limits, 0, buffer)?,
+            log: Log::opened(alloc, format, 0, buffer)?,
             lasts: Vec::new(alloc),
         })
     }
@@ -287,33 +287,33 @@ impl Log {
     fn replay_range<D: Device>(
         alloc: Global,
         device: &mut D,
-        limits: Format,
+        format: Format,
     ) -> Result<Replayed, Fault>
-        requires limits { AreLimits limits }
-        requires range { log_end limits ≤ length (D.trace device.old).now.seen }
+        requires format { AreLimits format }
+        requires range { log_end format ≤ length (D.trace device.old).now.seen }
         ensures ok { IfOk result
-            (IsReplay limits (D.is_honest device.new) (D.trace device.old).now) }
+            (IsReplay format (D.is_honest device.new) (D.trace device.old).now) }
         ensures damaged { IsErrOf result Fault.LogDamaged → IsTrue (D.is_honest device.new)
-            → IsDamaged limits (D.trace device.old).now }
-        ensures opened { IfOk result (λ r. IsOpened limits r.log) }
+            → IsDamaged format (D.trace device.old).now }
+        ensures opened { IfOk result (λ r. IsOpened format r.log) }
         ensures trace { D.trace device.new ≡ D.trace device.old }
         ensures honest { IsTrue (D.is_honest device.new) → IsTrue (D.is_honest device.old) }
         ensures cause { ReplayFails result (D.failures device.old) (D.failures device.new) }
     {
-        let Ok(mut buffer) = vec![in alloc; 0u8; limits.log_bytes as usize] else {
+        let Ok(mut buffer) = vec![in alloc; 0u8; format.log_bytes as usize] else {
             return Err(Fault::NoMemory);
         };
-        let Ok(mut lasts) = vec![in alloc; 0u32; limits.pages as usize] else {
+        let Ok(mut lasts) = vec![in alloc; 0u32; format.pages as usize] else {
             return Err(Fault::NoMemory);
         };
         let Ok(()) = device.read_at(LOG_START, &mut buffer) else {
             return Err(Fault::Io);
         };
-        let Some(at) = note_groups(&limits, &mut lasts, &buffer) else {
+        let Some(at) = note_groups(&format, &mut lasts, &buffer) else {
             return Err(Fault::LogDamaged);
         };
         Ok(Replayed {
-            log: Log::opened(alloc, limits, at, buffer)?,
+            log: Log::opened(alloc, format, at, buffer)?,
             lasts,
         })
     }
@@ -327,25 +327,25 @@ impl Log {
     pub fn replay<D: Device>(
         alloc: Global,
         device: &mut D,
-        limits: Format,
+        format: Format,
     ) -> Result<Replayed, Fault>
-        requires limits { AreLimits limits }
-        requires range { log_end limits ≤ length (D.trace device.old).now.seen }
+        requires format { AreLimits format }
+        requires range { log_end format ≤ length (D.trace device.old).now.seen }
 
         ensures ok { IfOk result
-            (IsReplay limits (D.is_honest device.new) (D.trace device.old).now) }
+            (IsReplay format (D.is_honest device.new) (D.trace device.old).now) }
         ensures damaged { IsErrOf result Fault.LogDamaged → IsTrue (D.is_honest device.new)
-            → IsDamaged limits (D.trace device.old).now }
-        ensures opened { IfOk result (λ r. IsOpened limits r.log) }
+            → IsDamaged format (D.trace device.old).now }
+        ensures opened { IfOk result (λ r. IsOpened format r.log) }
 
         ensures trace { D.trace device.new ≡ D.trace device.old }
         ensures honest { IsTrue (D.is_honest device.new) → IsTrue (D.is_honest device.old) }
         ensures cause { ReplayFails result (D.failures device.old) (D.failures device.new) }
     {
         if is_gate_open(device)? {
-            Log::replay_range(alloc, device, limits)
+            Log::replay_range(alloc, device, format)
         } else {
-            Log::replay_none(alloc, limits)
+            Log::replay_none(alloc, format)
         }
     }
 }

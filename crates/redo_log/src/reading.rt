@@ -23,15 +23,15 @@ fn page_of(bytes: &[u8]) -> Option<Page>
 }
 
 /// The block of the image of these bytes, if an index of these limits may have it.
-fn block_of(limits: &Format, bytes: &[u8]) -> Option<u32>
+fn block_of(format: &Format, bytes: &[u8]) -> Option<u32>
     requires { length bytes.now ≡ 4096 }
     ensures found { IfSome result (λ b.
-        (p : Page) × IsImage limits.now p × (bytes.now ≡ page_bytes p) × (p.block ≡ b)) }
-    ensures only { (p : Page) → IsImage limits.now p → bytes.now ≡ page_bytes p
+        (p : Page) × IsImage format.now p × (bytes.now ≡ page_bytes p) × (p.block ≡ b)) }
+    ensures only { (p : Page) → IsImage format.now p → bytes.now ≡ page_bytes p
         → result ≡ Some p.block }
 {
     let page = page_of(bytes)?;
-    if !is_within(limits, &page) {
+    if !is_within(format, &page) {
         return None;
     }
     Some(page.block)
@@ -57,20 +57,20 @@ fn tail(log: &[u8], at: usize) -> &[u8]
 
 /// Whether `count` images stand there. Each is judged once, and its place is noted as that of the last one of
 /// its block.
-fn note_images(limits: &Format, lasts: &mut [u32], log: &[u8], at: usize, count: usize) -> bool
+fn note_images(format: &Format, lasts: &mut [u32], log: &[u8], at: usize, count: usize) -> bool
     requires small { length log.now ≤ 16777216 }
-    requires many { length lasts.old ≡ limits.now.pages }
-    requires behind { 0 < at }
+    requires many { length lasts.old ≡ format.now.pages }
+    requires after { 0 < at }
     requires inside { at + 4096 * count ≤ length log.now }
     ensures noted { OnTrue result
-        (NotesImages limits.now log.now at count lasts.old lasts.new) }
-    ensures wrong { OnFalse result ((ps : List Page) → AreImages limits.now ps
+        (NotesImages format.now log.now at count lasts.old lasts.new) }
+    ensures wrong { OnFalse result ((ps : List Page) → AreImages format.now ps
         → take (4096 * count) (drop at log.now) ≡ images_bytes ps → ⊥) }
     ensures len { length lasts.new ≡ length lasts.old }
 {
     for k in 0..count {
         let place = at + 4096 * k;
-        let Some(block) = block_of(limits, piece(log, place)) else {
+        let Some(block) = block_of(format, piece(log, place)) else {
             return false;
         };
         lasts[block as usize] = place as u32;
@@ -80,14 +80,14 @@ fn note_images(limits: &Format, lasts: &mut [u32], log: &[u8], at: usize, count:
 
 /// Notes the images of the group that stands there, after its gate, and answers how many they are.
 /// None: the bytes are no group, or nothing stands after it.
-fn note_group(limits: &Format, lasts: &mut [u32], log: &[u8], at: usize) -> Option<usize>
+fn note_group(format: &Format, lasts: &mut [u32], log: &[u8], at: usize) -> Option<usize>
     requires small { length log.now ≤ 16777216 }
-    requires many { length lasts.old ≡ limits.now.pages }
+    requires many { length lasts.old ≡ format.now.pages }
     requires inside { at ≤ length log.now }
     ensures noted { IfSome result (λ count.
-        NotesGroup limits.now log.now at count lasts.old lasts.new) }
+        NotesGroup format.now log.now at count lasts.old lasts.new) }
     ensures wrong { IsNone result → (group : List Page) (rest : List ℕ)
-        → IsGroup limits.now group → 0 < length rest → drop at log.now ≡ body group ++ rest → ⊥ }
+        → IsGroup format.now group → 0 < length rest → drop at log.now ≡ body group ++ rest → ⊥ }
     ensures len { length lasts.new ≡ length lasts.old }
 {
     let (number, bodies) = tail(log, at).split_first_chunk()?;
@@ -95,7 +95,7 @@ fn note_group(limits: &Format, lasts: &mut [u32], log: &[u8], at: usize) -> Opti
     if count == 0 || bodies.len() <= 4096 * count {
         return None;
     }
-    if !note_images(limits, lasts, log, at + 4, count) {
+    if !note_images(format, lasts, log, at + 4, count) {
         return None;
     }
     Some(count)
@@ -103,17 +103,17 @@ fn note_group(limits: &Format, lasts: &mut [u32], log: &[u8], at: usize) -> Opti
 
 /// Notes the images of the groups up to the first gate that isn't open, and answers where that gate
 /// stands. None: an open group is none.
-pub(crate) fn note_groups(limits: &Format, lasts: &mut [u32], log: &[u8]) -> Option<usize>
+pub(crate) fn note_groups(format: &Format, lasts: &mut [u32], log: &[u8]) -> Option<usize>
     requires small { length log.now ≤ 16777216 }
     requires some { 4096 ≤ length log.now }
-    requires fresh { lasts.old ≡ replicate limits.now.pages 0 }
-    ensures noted { IfSome result (λ end. AreAllNoted limits.now log.now lasts.new end) }
+    requires fresh { lasts.old ≡ replicate format.now.pages 0 }
+    ensures noted { IfSome result (λ end. AreAllNoted format.now log.now lasts.new end) }
     ensures damaged { IsNone result
-        → (groups : List (List Page)) → SpellsGroups limits.now log.now groups → ⊥ }
+        → (groups : List (List Page)) → SpellsGroups format.now log.now groups → ⊥ }
 {
     let mut at = 0;
     while log[at] == 1 {
-        at += 5 + 4096 * note_group(limits, lasts, log, at + 1)?;
+        at += 5 + 4096 * note_group(format, lasts, log, at + 1)?;
     }
     Some(at)
 }

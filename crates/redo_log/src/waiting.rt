@@ -71,11 +71,11 @@ impl Waiting {
     {
         let mut count = 0;
         let mut rest = images;
-        while let [image, behind @ ..] = rest {
-            if !self.is_waiting(image.block) && !has_block(behind, image.block) {
+        while let [image, later @ ..] = rest {
+            if !self.is_waiting(image.block) && !has_block(later, image.block) {
                 count += 1;
             }
-            rest = behind;
+            rest = later;
         }
         count
     }
@@ -111,9 +111,9 @@ impl Waiting {
         ensures capacity { vec_capacity self.new.blocks ≡ vec_capacity self.old.blocks }
     {
         let mut rest = images;
-        while let [image, behind @ ..] = rest {
+        while let [image, later @ ..] = rest {
             self.take(image.block);
-            rest = behind;
+            rest = later;
         }
     }
 
@@ -145,11 +145,11 @@ fn has_block(images: &[Page], block: u32) -> bool
     ensures { result ≡ is_among_blocks (image_blocks images.now) block }
 {
     let mut rest = images;
-    while let [image, behind @ ..] = rest {
+    while let [image, later @ ..] = rest {
         if image.block == block {
             return true;
         }
-        rest = behind;
+        rest = later;
     }
     false
 }

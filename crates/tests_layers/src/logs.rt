@@ -4,7 +4,7 @@ ghost use Rattle.std.specs.Prelude.{◌≡◌, ◌+◌, ◌<◌, ◌≤◌, ◌+
 ghost use Rattle.std.specs.Option.{option_map};
 ghost use Rattle.page_codec.specs.Spelling.{page_bytes};
 ghost use Rattle.redo_log.specs.Images.{last_image};
-ghost use Rattle.redo_log.specs.Kept.{limits_of, laid_count, waiting_blocks, waiting_count, waiting_images, IsLaid};
+ghost use Rattle.redo_log.specs.Kept.{format_of, laid_count, waiting_blocks, waiting_count, waiting_images, IsLaid};
 
 use crate::trees::{limits, marked};
 use device::{CrashImage, Device, MemDevice};
@@ -54,14 +54,14 @@ fn copy_all(list: &mut Vec<Page>, pages: &[Page])
     ensures { list.new.items ≡ list.old.items ++ pages.now }
 {
     let mut rest = pages;
-    while let [page, behind @ ..] = rest {
+    while let [page, later @ ..] = rest {
         list.push_reserved(page.copy());
-        rest = behind;
+        rest = later;
     }
 }
 
 fn append(log: &mut FilledLog, pages: &[Page]) -> Result<u64, Fault> {
-    if !are_images(&log.log.limits(), pages) {
+    if !are_images(&log.log.format(), pages) {
         return Err(Fault::PageDamaged(0));
     }
     if log.pages.reserve(pages.len()).is_err() {
@@ -78,11 +78,11 @@ fn last_of(pages: &[Page], block: u32) -> Option<&Page>
 {
     let mut found = None;
     let mut rest = pages;
-    while let [page, behind @ ..] = rest {
+    while let [page, later @ ..] = rest {
         if page.block == block {
             found = Some(page);
         }
-        rest = behind;
+        rest = later;
     }
     found
 }
@@ -91,7 +91,7 @@ fn last_of(pages: &[Page], block: u32) -> Option<&Page>
 fn lay_next(log: &mut FilledLog, block: u32) -> Result<(), Fault>
     requires next { laid_count log.old.log < waiting_count log.old.log }
     requires block { slice_index (waiting_blocks log.old.log) (laid_count log.old.log) ≡ block }
-    ensures limits { limits_of log.new.log ≡ limits_of log.old.log }
+    ensures format { format_of log.new.log ≡ format_of log.old.log }
     ensures count { waiting_count log.new.log ≡ waiting_count log.old.log }
     ensures more { OnOk result (laid_count log.old.log < laid_count log.new.log) }
 {
@@ -107,7 +107,7 @@ fn lay_next(log: &mut FilledLog, block: u32) -> Result<(), Fault>
 // Lays out all images that wait.
 fn lay(log: &mut FilledLog) -> Result<(), Fault>
     ensures laid { OnOk result (IsLaid log.new.log) }
-    ensures limits { limits_of log.new.log ≡ limits_of log.old.log }
+    ensures format { format_of log.new.log ≡ format_of log.old.log }
 {
     let mut next = log.log.unlaid();
     while let Some(block) = next {
@@ -118,7 +118,7 @@ fn lay(log: &mut FilledLog) -> Result<(), Fault>
 }
 
 fn force(log: &mut FilledLog, device: &mut MemDevice) -> Result<u64, Fault> {
-    if device.len() < LOG_START + u64::from(log.log.limits().log_bytes) {
+    if device.len() < LOG_START + u64::from(log.log.format().log_bytes) {
         return Err(Fault::DeviceTooSmall);
     }
     lay(log)?;
@@ -130,7 +130,7 @@ fn force(log: &mut FilledLog, device: &mut MemDevice) -> Result<u64, Fault> {
 // The next part of a force: 0 where nothing waits, 1 where the group was written, 2 where its gate was
 // opened.
 fn advance(log: &mut FilledLog, device: &mut MemDevice) -> Result<u32, Fault> {
-    if device.len() < LOG_START + u64::from(log.log.limits().log_bytes) {
+    if device.len() < LOG_START + u64::from(log.log.format().log_bytes) {
         return Err(Fault::DeviceTooSmall);
     }
     lay(log)?;
@@ -145,7 +145,7 @@ fn reset(log: &mut FilledLog, device: &mut MemDevice) -> Result<(), Fault> {
     if log.log.is_ajar() {
         return Err(Fault::LogDamaged);
     }
-    if device.len() < LOG_START + u64::from(log.log.limits().log_bytes) {
+    if device.len() < LOG_START + u64::from(log.log.format().log_bytes) {
         return Err(Fault::DeviceTooSmall);
     }
     log.log.reset(device)

@@ -7,20 +7,20 @@ use Rattle.recovery.proofs.Outside.{untouched_on, sync_untouched, gate_keeps, pa
 use Rattle.recovery.proofs.creation.place_body.Goals as goal
 
 -- the bytes after the superblock
-abbrev behind : Format → ℕ
-behind limits = limits.log_bytes + 4096 * limits.pages
+abbrev body_len : Format → ℕ
+body_len format = format.log_bytes + 4096 * format.pages
 
 -- the gate is one of them
 gate_goes : (g : Over) (c : After-place g)
-    → AtEachMoment (ChangesOnly 4096 (behind c.args.limits.now) (g.D.Device.trace c.args.device.now).now) (g.D.Device.trace c.args.device.now) (g.D.Device.trace c.place.new.device)
-gate_goes g c = wider_goes 4096 1 4096 (behind c.args.limits.now) _ _ (omega arith) (omega (arith, c.requires.allowed.log_from)) c.place.ensures.moments
+    → AtEachMoment (ChangesOnly 4096 (body_len c.args.format.now) (g.D.Device.trace c.args.device.now).now) (g.D.Device.trace c.args.device.now) (g.D.Device.trace c.place.new.device)
+gate_goes g c = wider_goes 4096 1 4096 (body_len c.args.format.now) _ _ (omega arith) (omega (arith, c.requires.allowed.log_from)) c.place.ensures.moments
 
 -- and so are the pages
 pages_go : (g : Over) (c : After-place_pages g)
-    → AtEachMoment (ChangesOnly 4096 (behind c.args.limits.now) (g.D.Device.trace c.args.device.now).now) (g.D.Device.trace c.args.device.now) (g.D.Device.trace c.place_pages.new.device)
+    → AtEachMoment (ChangesOnly 4096 (body_len c.args.format.now) (g.D.Device.trace c.args.device.now).now) (g.D.Device.trace c.args.device.now) (g.D.Device.trace c.place_pages.new.device)
 pages_go g c =
-    let limits = c.args.limits.now in
-    more_goes (place limits 0) (4096 * limits.pages) 4096 (behind limits) _ _ _ (omega arith) (omega arith) (gate_goes g (goal.at.After-place_pages g c).After-place) c.place_pages.ensures.moments
+    let format = c.args.format.now in
+    more_goes (place format 0) (4096 * format.pages) 4096 (body_len format) _ _ _ (omega arith) (omega arith) (gate_goes g (goal.at.After-place_pages g c).After-place) c.place_pages.ensures.moments
 
 pub returns-in_err-place-clause-moments : goal.returns-in_err-place-clause-moments
 returns-in_err-place-clause-moments g c = gate_goes g (goal.at.returns-in_err-place-clause-moments g c).After-place
@@ -30,21 +30,21 @@ returns-in_err-place_pages-clause-moments g c = pages_go g (goal.at.returns-in_e
 
 pub returns-clause-there : goal.returns-clause-there
 returns-clause-there g c =
-    body_made c.args.limits.now c.sync.result _ _ _ c.in_ok-place.ensures.there
-    (only_now (place c.args.limits.now 0) (4096 * c.args.limits.now.pages) _ _ c.place_pages.ensures.moments) c.in_ok-place_pages.ensures.there
+    body_made c.args.format.now c.sync.result _ _ _ c.in_ok-place.ensures.there
+    (only_now (place c.args.format.now 0) (4096 * c.args.format.now.pages) _ _ c.place_pages.ensures.moments) c.in_ok-place_pages.ensures.there
     (omega (arith, c.requires.allowed.log_from)) c.sync.ensures.trace
 
 pub returns-clause-moments : goal.returns-clause-moments
-returns-clause-moments g c = synced_goes 4096 (behind c.args.limits.now) c.sync.result _ _ _ (pages_go g (goal.at.returns-clause-moments g c).After-place_pages) c.sync.ensures.trace
+returns-clause-moments g c = synced_goes 4096 (body_len c.args.format.now) c.sync.result _ _ _ (pages_go g (goal.at.returns-clause-moments g c).After-place_pages) c.sync.ensures.trace
 
 -- the bytes of the log after the gate stay
-gate_stays : (g : Over) (c : After-place g) → SameLogBytes c.args.limits.now (g.D.Device.trace c.args.device.now) (g.D.Device.trace c.place.new.device)
-gate_stays g c = gate_keeps c.args.limits.now _ _ c.place.ensures.moments
+gate_stays : (g : Over) (c : After-place g) → SameLogBytes c.args.format.now (g.D.Device.trace c.args.device.now) (g.D.Device.trace c.place.new.device)
+gate_stays g c = gate_keeps c.args.format.now _ _ c.place.ensures.moments
 
-pages_stay : (g : Over) (c : After-place_pages g) → SameLogBytes c.args.limits.now (g.D.Device.trace c.args.device.now) (g.D.Device.trace c.place_pages.new.device)
+pages_stay : (g : Over) (c : After-place_pages g) → SameLogBytes c.args.format.now (g.D.Device.trace c.args.device.now) (g.D.Device.trace c.place_pages.new.device)
 pages_stay g c =
-    untouched_on 4097 (c.args.limits.now.log_bytes - 1) _ _ _ (gate_stays g (goal.at.After-place_pages g c).After-place)
-    (pages_keep c.args.limits.now _ _ (omega (arith, c.requires.allowed.log_from)) c.place_pages.ensures.moments)
+    untouched_on 4097 (c.args.format.now.log_bytes - 1) _ _ _ (gate_stays g (goal.at.After-place_pages g c).After-place)
+    (pages_keep c.args.format.now _ _ (omega (arith, c.requires.allowed.log_from)) c.place_pages.ensures.moments)
 
 pub returns-in_err-place-clause-log : goal.returns-in_err-place-clause-log
 returns-in_err-place-clause-log g c = gate_stays g (goal.at.returns-in_err-place-clause-log g c).After-place
@@ -54,5 +54,5 @@ returns-in_err-place_pages-clause-log g c = pages_stay g (goal.at.returns-in_err
 
 pub returns-clause-log : goal.returns-clause-log
 returns-clause-log g c =
-    untouched_on 4097 (c.args.limits.now.log_bytes - 1) _ _ _ (pages_stay g (goal.at.returns-clause-log g c).After-place_pages)
-    (sync_untouched 4097 (c.args.limits.now.log_bytes - 1) c.sync.result _ _ c.sync.ensures.trace)
+    untouched_on 4097 (c.args.format.now.log_bytes - 1) _ _ _ (pages_stay g (goal.at.returns-clause-log g c).After-place_pages)
+    (sync_untouched 4097 (c.args.format.now.log_bytes - 1) c.sync.result _ _ c.sync.ensures.trace)

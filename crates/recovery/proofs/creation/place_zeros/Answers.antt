@@ -12,14 +12,14 @@ module _ (g : Over) (c : After-place g) where
   short : 4096 * (c.min-end.result - c.loop-block.block) ≤ 65536
   short = omega (arith, c.min-end.ensures, c.loop-block-test.true)
 
-  written : AtEachMoment (ChangesOnly (place c.args.limits.now c.loop-block.block) (4096 * (c.min-end.result - c.loop-block.block)) (g.D.Device.trace c.loop-block.device).now)
+  written : AtEachMoment (ChangesOnly (place c.args.format.now c.loop-block.block) (4096 * (c.min-end.result - c.loop-block.block)) (g.D.Device.trace c.loop-block.device).now)
       (g.D.Device.trace c.loop-block.device) (g.D.Device.trace c.place.new.device)
-  written = zeros_written c.args.limits.now c.loop-block.block c.min-end.result _ _ c.page_place.ensures (take-replicate (4096 * (c.min-end.result - c.loop-block.block)) 65536 0 short) _ _ c.place.ensures.moments
+  written = zeros_written c.args.format.now c.loop-block.block c.min-end.result _ _ c.page_place.ensures (take-replicate (4096 * (c.min-end.result - c.loop-block.block)) 65536 0 short) _ _ c.place.ensures.moments
 
-  more : AtEachMoment (ChangesOnly (place c.args.limits.now 2) (4096 * (c.args.limits.now.pages - 2)) (g.D.Device.trace c.args.device.now).now)
+  more : AtEachMoment (ChangesOnly (place c.args.format.now 2) (4096 * (c.args.format.now.pages - 2)) (g.D.Device.trace c.args.device.now).now)
       (g.D.Device.trace c.args.device.now) (g.D.Device.trace c.place.new.device)
   more =
-      more_goes (place c.args.limits.now c.loop-block.block) (4096 * (c.min-end.result - c.loop-block.block)) (place c.args.limits.now 2) (4096 * (c.args.limits.now.pages - 2)) _ (g.D.Device.trace c.loop-block.device) _
+      more_goes (place c.args.format.now c.loop-block.block) (4096 * (c.min-end.result - c.loop-block.block)) (place c.args.format.now 2) (4096 * (c.args.format.now.pages - 2)) _ (g.D.Device.trace c.loop-block.device) _
       (omega (arith, c.loop-block.invariant.from)) (omega (arith, c.loop-block.invariant.from, c.min-end.ensures, c.loop-block-test.true)) c.loop-block.invariant.moments written
 
 pub returns-in_err-place-clause-moments : goal.returns-in_err-place-clause-moments
@@ -31,8 +31,8 @@ loop-block-preserved g c =
     record {
       from = omega (arith, c.loop-block.invariant.from, c.min-end.ensures, c.loop-block-test.true);
       few = omega (arith, c.min-end.ensures);
-      there = zeros_more c.args.limits.now c.loop-block.block c.min-end.result _ _ (omega (arith, c.min-end.ensures, c.loop-block-test.true)) c.loop-block.invariant.there
-          (zeros_there c.args.limits.now c.loop-block.block c.min-end.result _ _ c.page_place.ensures (take-replicate (4096 * (c.min-end.result - c.loop-block.block)) 65536 0 (short g c')) _ c.in_ok-place.ensures.there)
+      there = zeros_more c.args.format.now c.loop-block.block c.min-end.result _ _ (omega (arith, c.min-end.ensures, c.loop-block-test.true)) c.loop-block.invariant.there
+          (zeros_there c.args.format.now c.loop-block.block c.min-end.result _ _ c.page_place.ensures (take-replicate (4096 * (c.min-end.result - c.loop-block.block)) 65536 0 (short g c')) _ c.in_ok-place.ensures.there)
           (only_now _ (4096 * (c.min-end.result - c.loop-block.block)) (g.D.Device.trace c.loop-block.device) _ (written g c'));
       moments = more g c';
       len = c.place.ensures.calls.len ∙ c.loop-block.invariant.len;

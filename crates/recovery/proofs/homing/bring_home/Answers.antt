@@ -7,6 +7,6 @@ returns-clause-moments g c =
     let trace = g.D.Device.trace in
     let start = trace c.args.device.now in
     let middle = trace c.write_images.new.device in
-    let now = goes_now _ start middle c.write_images.ensures.moments (same_named c.args.limits c.args.found.now start.now) in
+    let now = goes_now _ start middle c.write_images.ensures.moments (same_named c.args.format c.args.found.now start.now) in
     goes_on _ start middle (trace c.sync.new.self) c.write_images.ensures.moments
-    (syncs_goes _ c.sync.result middle (trace c.sync.new.self) c.sync.ensures.trace (named_synced c.args.limits c.args.found.now start.now middle.now now))
+    (syncs_goes _ c.sync.result middle (trace c.sync.new.self) c.sync.ensures.trace (named_synced c.args.format c.args.found.now start.now middle.now now))

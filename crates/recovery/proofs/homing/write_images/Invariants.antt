@@ -7,9 +7,9 @@ abbrev pub invariant-loop-block : goal.invariant-loop-block
 invariant-loop-block g l =
     let trace = g.D.Device.trace in
     record {
-      moments : AtEachMoment (ChangesNamed l.limits l.found (trace l.fn.device).now) (trace l.fn.device) (trace l.device);
-      now : ChangesNamed l.limits l.found (trace l.fn.device).now (trace l.device).now;
-      written : HomedBelow l.limits l.found l.block (trace l.device).now.seen;
+      moments : AtEachMoment (ChangesNamed l.format l.found (trace l.fn.device).now) (trace l.fn.device) (trace l.device);
+      now : ChangesNamed l.format l.found (trace l.fn.device).now (trace l.device).now;
+      written : HomedBelow l.format l.found l.block (trace l.device).now.seen;
       len : length (trace l.device).now.seen ≡ length (trace l.fn.device).now.seen;
       honest : g.D.Device.is_honest l.device ≡ g.D.Device.is_honest l.fn.device;
       failures : g.D.Device.failures l.device ≡ g.D.Device.failures l.fn.device;

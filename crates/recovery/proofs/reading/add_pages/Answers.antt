@@ -1,6 +1,6 @@
 use Rattle.std.proofs.Common.{◌≡◌, ◌≤◌, ◌∙◌, ◌-◌, ◌*◌, ℕ, IsTrue, List, length, take, drop, inr, sym, ap, subst, arith, length-append, length-drop, length-take-le}
 use Rattle.device.specs.Disk.{Trace}
-use Rattle.recovery.proofs.Imports.{Format, limits_of_room, IsIoOr, AreBlocks, HasReadPages, IsDamagedBlock}
+use Rattle.recovery.proofs.Imports.{Format, format_of_room, IsIoOr, AreBlocks, HasReadPages, IsDamagedBlock}
 use Rattle.recovery.proofs.Batches.{read_still, blocks_read}
 use Rattle.recovery.proofs.Blocks.{refused}
 use Rattle.recovery.proofs.reading.add_pages.Given.{Over}
@@ -12,13 +12,13 @@ module _ (g : Over) (c : After-add_blocks g) where
   abbrev file : List ℕ
   file = (g.D.Device.trace c.args.device.now).now.seen
 
-  room : limits_of_room c.loop-used.found.room ≡ c.args.limits
-  room = c.loop-used.invariant.read.limits_are
+  room : format_of_room c.loop-used.found.room ≡ c.args.format
+  room = c.loop-used.invariant.read.format_is
 
-  before : HasReadPages (limits_of_room c.loop-used.found.room) (g.D.Device.is_honest c.read_at.new.self) file c.loop-used.found
+  before : HasReadPages (format_of_room c.loop-used.found.room) (g.D.Device.is_honest c.read_at.new.self) file c.loop-used.found
   before =
       subst (λ (l : Format). HasReadPages l (g.D.Device.is_honest c.read_at.new.self) file c.loop-used.found) (sym room)
-      (read_still c.args.limits (g.D.Device.is_honest c.loop-used.device) _ file c.loop-used.found (λ honest. (c.read_at.ensures.honest.0 honest).0) c.loop-used.invariant.read)
+      (read_still c.args.format (g.D.Device.is_honest c.loop-used.device) _ file c.loop-used.found (λ honest. (c.read_at.ensures.honest.0 honest).0) c.loop-used.invariant.read)
 
   part : 4096 * (c.min-end.result - c.loop-used.used) ≤ length c.loop-used.batch
   part = omega (arith, c.loop-used.invariant.batch, c.min-end.ensures, c.loop-used-test.true)
@@ -26,9 +26,9 @@ module _ (g : Over) (c : After-add_blocks g) where
   size : length (take (4096 * (c.min-end.result - c.loop-used.used)) c.loop-used.batch) ≡ 4096 * (c.min-end.result - c.loop-used.used)
   size = length-take-le (4096 * (c.min-end.result - c.loop-used.used)) c.loop-used.batch part
 
-  are : IsTrue (g.D.Device.is_honest c.read_at.new.self) → AreBlocks (limits_of_room c.loop-used.found.room) c.loop-used.used c.min-end.result c.read_at.new.buf file
+  are : IsTrue (g.D.Device.is_honest c.read_at.new.self) → AreBlocks (format_of_room c.loop-used.found.room) c.loop-used.used c.min-end.result c.read_at.new.buf file
   are honest =
-      blocks_read c.args.limits _ c.loop-used.used c.min-end.result _ _ _ _ _ room c.page_place.ensures size (omega (arith, c.min-end.ensures, c.loop-used-test.true))
+      blocks_read c.args.format _ c.loop-used.used c.min-end.result _ _ _ _ _ room c.page_place.ensures size (omega (arith, c.min-end.ensures, c.loop-used-test.true))
       (ap (λ (t : Trace). t.now.seen) c.loop-used.invariant.trace) (c.in_ok-read_at.ensures.read honest)
 
 pub loop-used-preserved : goal.loop-used-preserved
@@ -59,7 +59,7 @@ returns-in_err-used-clause-cause g c =
     let c' = (goal.at.returns-in_err-used-clause-cause g c).After-add_blocks in
     let honest = g.D.Device.is_honest c.read_at.new.self in
     refused c.from_residual-in_err-used.result c.in_err-used.field-0.0 _
-    (IsIoOr (IsDamagedBlock c.args.limits honest (file g c')) (g.D.Device.failures c.args.device.now) (g.D.Device.failures c.read_at.new.self)) c.from_residual-in_err-used.ensures.1
+    (IsIoOr (IsDamagedBlock c.args.format honest (file g c')) (g.D.Device.failures c.args.device.now) (g.D.Device.failures c.read_at.new.self)) c.from_residual-in_err-used.ensures.1
     (inr (
       subst (λ (l : Format). IsDamagedBlock l honest (file g c') c.in_err-used.field-0.0) (room g c') (c.in_err-used.ensures.cause honest (file g c') (before g c') (are g c')),
       c.in_ok-read_at.ensures.failures ∙ c.loop-used.invariant.failures,

@@ -6,9 +6,9 @@ abbrev pub invariant-loop-used : goal.invariant-loop-used
 invariant-loop-used g l =
     let trace = g.D.Device.trace in
     record {
-      read : HasReadPages l.limits (g.D.Device.is_honest l.device) (trace l.fn.device).now.seen l.found;
+      read : HasReadPages l.format (g.D.Device.is_honest l.device) (trace l.fn.device).now.seen l.found;
       count : length (pages_of_room l.found.room) ≡ l.used;
-      few : l.used ≤ l.limits.pages;
+      few : l.used ≤ l.format.pages;
       batch : length l.batch ≡ 65536;
       frames : frames_of_room l.found.room ≡ frames_of_room l.fn.found.room;
       trace : trace l.device ≡ trace l.fn.device;
@@ -17,4 +17,4 @@ invariant-loop-used g l =
     }
 
 abbrev pub decreases-loop-used : goal.decreases-loop-used
-decreases-loop-used g l = l.limits.pages - l.used
+decreases-loop-used g l = l.format.pages - l.used

@@ -5,15 +5,15 @@ use Rattle.recovery.proofs.reading.read_pages.Goals as goal
 
 pub returns-then-used-eq0-clause-cause : goal.returns-then-used-eq0-clause-cause
 returns-then-used-eq0-clause-cause g c =
-    let limits = c.args.limits in
+    let format = c.args.format in
     let file = (g.D.Device.trace c.args.device.now).now.seen in
     inr (
       inr (
         0,
         refl,
         λ honest.
-            none_in_use limits file (omega (arith, c.requires.allowed.pages_from))
-            (subst (λ (n : ℕ). IsEnd limits n file) c.if-used-eq0.true (c.in_ok-used.ensures.end honest)),
+            none_in_use format file (omega (arith, c.requires.allowed.pages_from))
+            (subst (λ (n : ℕ). IsEnd format n file) c.if-used-eq0.true (c.in_ok-used.ensures.end honest)),
       ),
       c.in_ok-used.ensures.cause,
     )

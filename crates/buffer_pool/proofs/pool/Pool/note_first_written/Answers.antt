@@ -31,12 +31,12 @@ pub invariant_of-self-clause-ordered : goal.invariant_of-self-clause-ordered
 invariant_of-self-clause-ordered c =
     let pool = c.args.self.now in
     let blocks = blocks_in pool.pages.items in
-    let behind = drop c.args.count (waiting_in pool.changed) in
+    let later = drop c.args.count (waiting_in pool.changed) in
     let whole = subst (λ (xs : List ℕ). AreChanged xs blocks pool.acts.items) (sym (take-append-drop c.args.count (waiting_in pool.changed))) pool.ordered in
-    let cleaned = c.clean_frames.ensures.left blocks behind
+    let cleaned = c.clean_frames.ensures.left blocks later
     (subst (λ (places : List ℕ). ArePlaces places blocks) (sym c.deref.ensures.value) pool.placed)
-    (subst (λ (xs : List ℕ). AreChanged (take c.args.count xs ++ behind) blocks c.deref_mut.result.now) (sym c.as_slice.ensures)
-    (subst (λ (xs : List ℕ). AreChanged (take c.args.count (waiting_in pool.changed) ++ behind) blocks xs) (sym c.deref_mut.ensures.value) whole)) in
+    (subst (λ (xs : List ℕ). AreChanged (take c.args.count xs ++ later) blocks c.deref_mut.result.now) (sym c.as_slice.ensures)
+    (subst (λ (xs : List ℕ). AreChanged (take c.args.count (waiting_in pool.changed) ++ later) blocks xs) (sym c.deref_mut.ensures.value) whole)) in
     let acts = with_items_is pool.acts c.clean_frames.new.acts (omega (arith, c.clean_frames.ensures.many)) in
     subst (λ (xs : List ℕ). AreChanged (waiting_in c.drop_first.new.self) blocks xs) (sym acts)
     (subst (λ (xs : List ℕ). AreChanged xs blocks c.clean_frames.new.acts) (sym c.drop_first.ensures.waiting) cleaned)

@@ -10,9 +10,9 @@ more c = ap (λ (h : History). h.start) c.begin.ensures ∙ ap (λ (ps : List Pa
 pub invariant_of-self-clause-stored : goal.invariant_of-self-clause-stored
 invariant_of-self-clause-stored c =
     let room = c.args.self.now in
-    subst (λ (pages : List Page). AreStored room.limits 0 pages) (sym (more (goal.at.invariant_of-self-clause-stored c).After-begin))
-    (stored-add room.limits 0 room.history.start c.args.page.now room.stored
-    (stored_at room.limits (0 + length room.history.start) c.args.page.now (c.is_storable.ensures.0 c.if-not-is_storable.false) (omega arith)))
+    subst (λ (pages : List Page). AreStored room.format 0 pages) (sym (more (goal.at.invariant_of-self-clause-stored c).After-begin))
+    (stored-add room.format 0 room.history.start c.args.page.now room.stored
+    (stored_at room.format (0 + length room.history.start) c.args.page.now (c.is_storable.ensures.0 c.if-not-is_storable.false) (omega arith)))
 
 pub invariant_of-self-clause-waiting : goal.invariant_of-self-clause-waiting
 invariant_of-self-clause-waiting c =

@@ -26,7 +26,7 @@ use Rattle.page_store.proofs.logged_pages.LoggedPages.act.Goals as goal
 
 pub append-requires : goal.append-requires
 append-requires g c = record {
-  images = subst (λ (l : Format). AreImages l c.args.pages.now) (sym c.args.self.now.log_limits) (are_images c.args.self.now.limits _ c.args.pages.now c.requires.actable);
+  images = subst (λ (l : Format). AreImages l c.args.pages.now) (sym c.args.self.now.log_format) (are_images c.args.self.now.format _ c.args.pages.now c.requires.actable);
 }
 
 pub returns-in_err-number-clause-steps : goal.returns-in_err-number-clause-steps
@@ -36,7 +36,7 @@ pub used_after-self-requires : goal.used_after-self-requires
 used_after-self-requires g c = record {
   few = λ k d lt.
       let page = get_or c.args.pages.now k d in
-      let below = (actable_at c.args.self.now.limits _ c.args.pages.now k page c.requires.actable (slice_get-get_or c.args.pages.now k d lt)).1 in
+      let below = (actable_at c.args.self.now.format _ c.args.pages.now k page c.requires.actable (slice_get-get_or c.args.pages.now k d lt)).1 in
       omega (arith, below, c.args.self.now.allowed.pages_to);
 }
 
@@ -48,26 +48,26 @@ number_is : (g : Over) (c : After-note g) → c.in_ok-number.number ≡ suc c.ar
 number_is g c = c.in_ok-number.ensures.number ∙ ap suc (sym c.args.self.now.counted)
 
 -- they are stored, and not too many
-stored : (g : Over) (c : After-note g) → AreStored c.args.self.now.limits 0 (with_pages (pages_now c.args.self.now.history) c.args.pages.now)
-    × (length (with_pages (pages_now c.args.self.now.history) c.args.pages.now) ≤ c.args.self.now.limits.pages)
+stored : (g : Over) (c : After-note g) → AreStored c.args.self.now.format 0 (with_pages (pages_now c.args.self.now.history) c.args.pages.now)
+    × (length (with_pages (pages_now c.args.self.now.history) c.args.pages.now) ≤ c.args.self.now.format.pages)
 stored g c =
     let held = c.args.self.now in
-    stored-with_pages held.limits (length (pages_now held.history)) (pages_now held.history) c.args.pages.now c.requires.actable (omega arith)
-    held.stored (subst (λ (n : ℕ). n ≤ held.limits.pages) held.used_is held.few)
+    stored-with_pages held.format (length (pages_now held.history)) (pages_now held.history) c.args.pages.now c.requires.actable (omega arith)
+    held.stored (subst (λ (n : ℕ). n ≤ held.format.pages) held.used_is held.few)
 
 used : (g : Over) (c : After-note g) → c.used_after-self.result ≡ length (with_pages (pages_now c.args.self.now.history) c.args.pages.now)
 used g c =
     let held = c.args.self.now in
     let pages = pages_now held.history in
-    c.used_after-self.ensures ∙ (ap (λ (n : ℕ). used_after n c.args.pages.now) held.used_is ∙ sym (length_acted held.limits (length pages) pages c.args.pages.now c.requires.actable (omega arith)))
+    c.used_after-self.ensures ∙ (ap (λ (n : ℕ). used_after n c.args.pages.now) held.used_is ∙ sym (length_acted held.format (length pages) pages c.args.pages.now c.requires.actable (omega arith)))
 
-pub invariant_of-self-2-clause-log_limits : goal.invariant_of-self-2-clause-log_limits
-invariant_of-self-2-clause-log_limits g c = c.in_ok-number.ensures.limits ∙ c.args.self.now.log_limits
+pub invariant_of-self-2-clause-log_format : goal.invariant_of-self-2-clause-log_format
+invariant_of-self-2-clause-log_format g c = c.in_ok-number.ensures.format ∙ c.args.self.now.log_format
 
 pub invariant_of-self-2-clause-stored : goal.invariant_of-self-2-clause-stored
 invariant_of-self-2-clause-stored g c =
     let here = (goal.at.invariant_of-self-2-clause-stored g c).After-note in
-    subst (AreStored c.args.self.now.limits 0) (sym (pages_are g here)) (stored g here).0
+    subst (AreStored c.args.self.now.format 0) (sym (pages_are g here)) (stored g here).0
 
 pub invariant_of-self-2-clause-used_is : goal.invariant_of-self-2-clause-used_is
 invariant_of-self-2-clause-used_is g c =
@@ -77,7 +77,7 @@ invariant_of-self-2-clause-used_is g c =
 pub invariant_of-self-2-clause-few : goal.invariant_of-self-2-clause-few
 invariant_of-self-2-clause-few g c =
     let here = (goal.at.invariant_of-self-2-clause-few g c).After-note in
-    subst (λ (n : ℕ). n ≤ c.args.self.now.limits.pages) (sym (used g here)) (stored g here).1
+    subst (λ (n : ℕ). n ≤ c.args.self.now.format.pages) (sym (used g here)) (stored g here).1
 
 pub invariant_of-self-2-clause-holds : goal.invariant_of-self-2-clause-holds
 invariant_of-self-2-clause-holds g c =
@@ -87,9 +87,9 @@ invariant_of-self-2-clause-holds g c =
     let pool = c.change_all.new.pool in
     let m = (g.D.Device.trace held.device).now in
     let honest = g.D.Device.is_honest held.device in
-    subst (λ (ps : List Page). HoldsPages held.limits ps c.in_ok-number.number pool honest m) (sym (pages_are g here))
-    (subst (λ (n : ℕ). HoldsPages held.limits (with_pages pages c.args.pages.now) n pool honest m) (sym (number_is g here))
-    (holds_acted held.limits pages held.acts held.pool pool honest m c.args.pages.now held.holds held.stored (subst (λ (n : ℕ). n ≤ held.limits.pages) held.used_is held.few) c.requires.actable
+    subst (λ (ps : List Page). HoldsPages held.format ps c.in_ok-number.number pool honest m) (sym (pages_are g here))
+    (subst (λ (n : ℕ). HoldsPages held.format (with_pages pages c.args.pages.now) n pool honest m) (sym (number_is g here))
+    (holds_acted held.format pages held.acts held.pool pool honest m c.args.pages.now held.holds held.stored (subst (λ (n : ℕ). n ≤ held.format.pages) held.used_is held.few) c.requires.actable
     (subst (λ (n : ℕ). AreActed held.pool pool c.args.pages.now n) (number_is g here) c.change_all.ensures)))
 
 pub invariant_of-self-2-clause-waits : goal.invariant_of-self-2-clause-waits
@@ -103,18 +103,18 @@ pub returns-clause-steps : goal.returns-clause-steps
 returns-clause-steps g c =
     let here = (goal.at.returns-clause-steps g c).After-note in
     let held = c.args.self.now in
-    follows_act (held_of g.D.Device held) c.append.new.self c.args.pages.now c.room-self.result c.room-self.result c.append.ensures.limits c.append.ensures.stopped
+    follows_act (held_of g.D.Device held) c.append.new.self c.args.pages.now c.room-self.result c.room-self.result c.append.ensures.format c.append.ensures.stopped
     (λ m acts forced k. c.in_ok-number.ensures.keeps m acts forced k)
-    (subst (λ (l : Format). AreActable l (length (pages_now held.history)) c.args.pages.now) (sym held.log_limits) c.requires.actable)
+    (subst (λ (l : Format). AreActable l (length (pages_now held.history)) c.args.pages.now) (sym held.log_format) c.requires.actable)
     _ _ (λ block named. c.change_all.ensures.acted block named ∙ number_is g here) (λ block none. c.change_all.ensures.before block none)
     c.in_ok-number.number c.note.new.self (number_is g here) c.note.ensures
 
 pub returns-clause-room : goal.returns-clause-room
 returns-clause-room g c =
     let own = c.args.self.now in
-    let limits = sym (c.append.ensures.limits ∙ own.log_limits) in
+    let format = sym (c.append.ensures.format ∙ own.log_format) in
     room_left own.log c.append.new.self (length c.args.pages.now) own.room c.room-self.result
-    (λ some. subst (λ (l : Format). end_with own.log own.room ≤ l.log_bytes) limits (own.fits (alive_of c.append.result _ _ c.in_ok-number.was c.append.ensures.stopped_first) some))
+    (λ some. subst (λ (l : Format). end_with own.log own.room ≤ l.log_bytes) format (own.fits (alive_of c.append.result _ _ c.in_ok-number.was c.append.ensures.stopped_first) some))
     c.in_ok-number.ensures.room c.room-self.ensures.no_more
 
 pub returns-clause-pages : goal.returns-clause-pages
@@ -128,5 +128,5 @@ returns-in_err-number-clause-full g c is =
     let own = c.args.self.now in
     let refused = c.in_err-number.was ∙ ap Err (full_is c.from_residual.result _ c.from_residual.ensures.1 is) in
     no_room own.log own.room c.args.pages.now
-    (λ some. subst (λ (l : Format). end_with own.log own.room ≤ l.log_bytes) (sym own.log_limits) (own.fits (alive_full c.append.result _ refused c.append.ensures.stopped_first) some))
+    (λ some. subst (λ (l : Format). end_with own.log own.room ≤ l.log_bytes) (sym own.log_format) (own.fits (alive_full c.append.result _ refused c.append.ensures.stopped_first) some))
     (c.append.ensures.some refused) (c.append.ensures.full refused)

@@ -1,5 +1,5 @@
 use Rattle.std.proofs.Common.{rules, List, ◌≡◌, ◌≤◌, ◌∙◌, true, false, subst, sym, ap, arith}
-use Rattle.page_store.proofs.Imports.{is_err, ChangesOnly, goes_now, same_only, Format, whole_room, is_stopped, limits_of, forgets_all, pages_now, held_of}
+use Rattle.page_store.proofs.Imports.{is_err, ChangesOnly, goes_now, same_only, Format, whole_room, is_stopped, format_of, forgets_all, pages_now, held_of}
 use Rattle.page_store.proofs.Misfits.{whole_left}
 use Rattle.page_store.proofs.Acting.{failures_rise, stop_fails}
 use Rattle.page_store.proofs.CloseFollows.{IsClosing, follows_closed, home_firm}
@@ -18,7 +18,7 @@ closing g c =
     record {
       alive = c.requires.alive;
       all = c.requires.all;
-      limits = c.reset.ensures.same.limits;
+      format = c.reset.ensures.same.format;
       home = λ own. home_firm (held_of g.D.Device held) own c.requires.alive c.requires.all c.requires.clean c.requires.firm;
       moments = c.reset.ensures.moments;
       outside = c.reset.ensures.outside;
@@ -28,9 +28,9 @@ closing g c =
     }
 
 -- only the log's range changes
-only : (g : Over) (c : After-reset g) → ChangesOnly 4096 c.args.self.now.limits.log_bytes (g.D.Device.trace c.args.self.now.device).now (g.D.Device.trace c.reset.new.device).now
+only : (g : Over) (c : After-reset g) → ChangesOnly 4096 c.args.self.now.format.log_bytes (g.D.Device.trace c.args.self.now.device).now (g.D.Device.trace c.reset.new.device).now
 only g c =
-    subst (λ (l : Format). ChangesOnly 4096 l.log_bytes (g.D.Device.trace c.args.self.now.device).now (g.D.Device.trace c.reset.new.device).now) c.args.self.now.log_limits
+    subst (λ (l : Format). ChangesOnly 4096 l.log_bytes (g.D.Device.trace c.args.self.now.device).now (g.D.Device.trace c.reset.new.device).now) c.args.self.now.log_format
     (goes_now _ (g.D.Device.trace c.args.self.now.device) (g.D.Device.trace c.reset.new.device) c.reset.ensures.outside (same_only 4096 _ _))
 
 pub invariant_of-self : goal.invariant_of-self
@@ -38,13 +38,13 @@ invariant_of-self g c =
     let held = c.args.self.now in
     record {
       allowed = held.allowed;
-      log_limits = c.reset.ensures.same.limits ∙ held.log_limits;
+      log_format = c.reset.ensures.same.format ∙ held.log_format;
       sized = search rules;
       stored = held.stored;
       used_is = held.used_is;
       few = held.few;
       reach = held.reach;
-      holds = holds_logged held.limits (pages_now held.history) held.acts held.pool _ (g.D.Device.trace held.device).now
+      holds = holds_logged held.format (pages_now held.history) held.acts held.pool _ (g.D.Device.trace held.device).now
           (g.D.Device.trace c.reset.new.device).now held.holds _ c.reset.ensures.honest (only g (goal.at.invariant_of-self g c).After-reset);
       waits = subst (λ (l : List Page). HoldsWaiting l held.durable held.pool) (sym c.reset.ensures.images) held.waits;
       counted = search rules;
@@ -63,13 +63,13 @@ returns-in_err-reset-clause-steps g c =
     follows_closed (held_of g.D.Device held) _ _ _ _ (closing g (goal.at.returns-in_err-reset-clause-steps g c).After-reset) held.room held.promised
     (λ still. c.requires.clean) (λ still. (let both : true ≡ false = sym stopped ∙ still in absurd cc))
 
-pub invariant_of-self-2-clause-log_limits : goal.invariant_of-self-2-clause-log_limits
-invariant_of-self-2-clause-log_limits g c = c.reset.ensures.same.limits ∙ c.args.self.now.log_limits
+pub invariant_of-self-2-clause-log_format : goal.invariant_of-self-2-clause-log_format
+invariant_of-self-2-clause-log_format g c = c.reset.ensures.same.format ∙ c.args.self.now.log_format
 
 pub invariant_of-self-2-clause-holds : goal.invariant_of-self-2-clause-holds
 invariant_of-self-2-clause-holds g c =
     let held = c.args.self.now in
-    holds_logged held.limits (pages_now held.history) held.acts held.pool _ (g.D.Device.trace held.device).now
+    holds_logged held.format (pages_now held.history) held.acts held.pool _ (g.D.Device.trace held.device).now
     (g.D.Device.trace c.reset.new.device).now held.holds _ c.reset.ensures.honest (only g (goal.at.invariant_of-self-2-clause-holds g c).After-reset)
 
 pub invariant_of-self-2-clause-waits : goal.invariant_of-self-2-clause-waits
@@ -87,10 +87,10 @@ returns-clause-steps g c =
 pub returns-clause-room : goal.returns-clause-room
 returns-clause-room g c =
     let own = c.args.self.now in
-    let limits = c.reset.ensures.same.limits ∙ own.log_limits in
-    let bytes : 6 ≤ (limits_of c.reset.new.self).log_bytes = subst (λ (l : Format). 6 ≤ l.log_bytes) (sym limits) (omega (arith, own.allowed.log_from)) in
-    let whole : c.room-self.result ≡ whole_room own.limits =
+    let format = c.reset.ensures.same.format ∙ own.log_format in
+    let bytes : 6 ≤ (format_of c.reset.new.self).log_bytes = subst (λ (l : Format). 6 ≤ l.log_bytes) (sym format) (omega (arith, own.allowed.log_from)) in
+    let whole : c.room-self.result ≡ whole_room own.format =
     whole_left c.reset.new.self c.room-self.result (λ n. omega (arith, c.in_ok-reset.ensures.room n, own.forced c.requires.alive c.requires.all))
     c.room-self.ensures.fit c.room-self.ensures.no_more bytes
-    ∙ ap whole_room limits in
+    ∙ ap whole_room format in
     record { room = whole; promised = whole }

@@ -13,9 +13,9 @@ use Rattle.page_store.proofs.logged_pages.LoggedPages.force.Goals.{After-force, 
 use Rattle.page_store.proofs.logged_pages.LoggedPages.force.Goals as goal
 
 -- only the log's range changes
-only : (g : Over) (c : After-force g) → ChangesOnly 4096 c.args.self.now.limits.log_bytes (g.D.Device.trace c.args.self.now.device).now (g.D.Device.trace c.force.new.device).now
+only : (g : Over) (c : After-force g) → ChangesOnly 4096 c.args.self.now.format.log_bytes (g.D.Device.trace c.args.self.now.device).now (g.D.Device.trace c.force.new.device).now
 only g c =
-    subst (λ (l : Format). ChangesOnly 4096 l.log_bytes (g.D.Device.trace c.args.self.now.device).now (g.D.Device.trace c.force.new.device).now) c.args.self.now.log_limits
+    subst (λ (l : Format). ChangesOnly 4096 l.log_bytes (g.D.Device.trace c.args.self.now.device).now (g.D.Device.trace c.force.new.device).now) c.args.self.now.log_format
     (goes_now _ (g.D.Device.trace c.args.self.now.device) (g.D.Device.trace c.force.new.device) c.force.ensures.outside (same_only 4096 _ _))
 
 pub invariant_of-self : goal.invariant_of-self
@@ -23,13 +23,13 @@ invariant_of-self g c =
     let held = c.args.self.now in
     record {
       allowed = held.allowed;
-      log_limits = c.force.ensures.same.limits ∙ held.log_limits;
+      log_format = c.force.ensures.same.format ∙ held.log_format;
       sized = search rules;
       stored = held.stored;
       used_is = held.used_is;
       few = held.few;
       reach = held.reach;
-      holds = holds_logged held.limits _ held.acts held.pool _ (g.D.Device.trace held.device).now (g.D.Device.trace c.force.new.device).now held.holds
+      holds = holds_logged held.format _ held.acts held.pool _ (g.D.Device.trace held.device).now (g.D.Device.trace c.force.new.device).now held.holds
           _ c.force.ensures.honest (only g (goal.at.invariant_of-self g c).After-force);
       waits = subst (λ (l : List Page). HoldsWaiting l held.durable held.pool) (sym c.in_err-force.ensures.images) held.waits;
       counted = search rules;
@@ -44,7 +44,7 @@ invariant_of-self g c =
 pub invariant_of-self-then-self-clause-holds : goal.invariant_of-self-then-self-clause-holds
 invariant_of-self-then-self-clause-holds g c =
     let held = c.args.self.now in
-    holds_logged held.limits _ held.acts held.pool _ (g.D.Device.trace held.device).now (g.D.Device.trace c.force.new.device).now held.holds _
+    holds_logged held.format _ held.acts held.pool _ (g.D.Device.trace held.device).now (g.D.Device.trace c.force.new.device).now held.holds _
     c.force.ensures.honest (only g (goal.at.invariant_of-self-then-self-clause-holds g c).After-force)
 
 pub force-requires-clause-held : goal.force-requires-clause-held
@@ -56,19 +56,19 @@ invariant_of-self-then-self-clause-waits g c = waits_nothing _ _ _ c.in_ok-force
 pub returns-in_err-force-clause-steps : goal.returns-in_err-force-clause-steps
 returns-in_err-force-clause-steps g c =
     follows_failed_force (held_of g.D.Device c.args.self.now) c.force.new.log (g.D.Device.trace c.force.new.device) (g.D.Device.is_honest c.force.new.device) (g.D.Device.failures c.force.new.device)
-    c.force.ensures.same.limits (sym c.is_stopped.ensures ∙ c.if-is_stopped.false) c.force.ensures.moments c.force.ensures.outside c.force.ensures.len c.force.ensures.honest
+    c.force.ensures.same.format (sym c.is_stopped.ensures ∙ c.if-is_stopped.false) c.force.ensures.moments c.force.ensures.outside c.force.ensures.len c.force.ensures.honest
     (failures_rise c.force.result _ _ _ c.force.ensures.cause) (c.force.ensures.stopped ∙ ap is_err c.in_err-force.was)
     (stop_fails c.force.result _ _ _ c.force.ensures.cause (sym c.is_stopped.ensures ∙ c.if-is_stopped.false) (ap is_err c.in_err-force.was))
 
-pub invariant_of-self-then-self-clause-log_limits : goal.invariant_of-self-then-self-clause-log_limits
-invariant_of-self-then-self-clause-log_limits g c = c.force.ensures.same.limits ∙ c.args.self.now.log_limits
+pub invariant_of-self-then-self-clause-log_format : goal.invariant_of-self-then-self-clause-log_format
+invariant_of-self-then-self-clause-log_format g c = c.force.ensures.same.format ∙ c.args.self.now.log_format
 
 pub invariant_of-self-then-self-clause-kept_promise : goal.invariant_of-self-then-self-clause-kept_promise
 invariant_of-self-then-self-clause-kept_promise g c =
     let held = c.args.self.now in
     let left = c.room.result in
-    let most = promise_left held.log c.force.new.log held.limits.log_bytes held.room left (held.fits (sym c.is_stopped.ensures ∙ c.if-is_stopped.false)) (c.in_ok-force.ensures.room (left + 1))
-    (subst (λ (l : Format). l.log_bytes < end_with c.force.new.log (left + 1)) (c.force.ensures.same.limits ∙ held.log_limits)
+    let most = promise_left held.log c.force.new.log held.format.log_bytes held.room left (held.fits (sym c.is_stopped.ensures ∙ c.if-is_stopped.false)) (c.in_ok-force.ensures.room (left + 1))
+    (subst (λ (l : Format). l.log_bytes < end_with c.force.new.log (left + 1)) (c.force.ensures.same.format ∙ held.log_format)
     (misfit c.force.new.log (left + 1) (c.room.ensures.no_more (left + 1) (omega arith)))) in
     omega (arith, most, held.new_promise c.if-self.true, c.min-self.ensures)
 
@@ -78,7 +78,7 @@ returns-clause-steps g c =
     elim c.if-self.branch [
       | then-self+in_ok-force w ↦ subst (λ s. Follows start (held_of g.D.Device s)) (sym w.self-is)
           (follows_force start w.force.new.log (g.D.Device.trace w.force.new.device) (g.D.Device.is_honest w.force.new.device) (g.D.Device.failures w.force.new.device)
-          w.force.ensures.same.limits (sym c.is_stopped.ensures ∙ c.if-is_stopped.false) w.force.ensures.moments w.force.ensures.outside w.force.ensures.len w.force.ensures.honest
+          w.force.ensures.same.format (sym c.is_stopped.ensures ∙ c.if-is_stopped.false) w.force.ensures.moments w.force.ensures.outside w.force.ensures.len w.force.ensures.honest
           (failures_rise w.force.result _ _ _ w.force.ensures.cause) w.in_ok-force.ensures.keeps c.args.self.now.not_ahead w.min-self.result (w.force.ensures.stopped ∙ ap is_err w.in_ok-force.was))
       | else-self w ↦ subst (λ s. Follows start (held_of g.D.Device s)) (sym w.self-is) (follows_same start)
     ]

@@ -10,7 +10,7 @@ use Rattle.page_store.proofs.logged_pages.LoggedPages.note_use.Goals as goal
 pub invariant_of-self-clause-holds : goal.invariant_of-self-clause-holds
 invariant_of-self-clause-holds g c =
     let held = c.args.self.now in
-    holds_same held.limits (pages_now held.history) held.acts held.pool c.note_use.new.self _ _ held.holds c.note_use.ensures.pages c.note_use.ensures.changes.acts
+    holds_same held.format (pages_now held.history) held.acts held.pool c.note_use.new.self _ _ held.holds c.note_use.ensures.pages c.note_use.ensures.changes.acts
 
 pub invariant_of-self-clause-waits : goal.invariant_of-self-clause-waits
 invariant_of-self-clause-waits g c =
@@ -20,4 +20,4 @@ invariant_of-self-clause-waits g c =
 pub returns-clause-quiet : goal.returns-clause-quiet
 returns-clause-quiet g c =
     quiet_noted g.D.Device c.args.self.now _ refl refl refl refl refl refl refl (part_is _ _ c.note_use.ensures.changes.order)
-    (follows_noted (held_of g.D.Device c.args.self.now) _ _ c.args.self.now.limits c.args.self.now.log_limits (λ block. inl (c.note_use.ensures.changes.acts block)))
+    (follows_noted (held_of g.D.Device c.args.self.now) _ _ c.args.self.now.format c.args.self.now.log_format (λ block. inl (c.note_use.ensures.changes.acts block)))

@@ -15,8 +15,8 @@ invariant_of-self-clause-holds g c =
     let pages = pages_now held.history in
     let m = (g.D.Device.trace held.device).now in
     let honest = g.D.Device.is_honest held.device in
-    holds_noted held.limits pages held.acts held.pool c.note_written.new.self honest m held.holds c.note_written.ensures.pages
-    (written_noted held.limits pages held.acts held.pool honest m held.holds c.law.ensures c.note_written.new.self c.args.place c.args.block c.requires.at c.requires.home c.note_written.ensures)
+    holds_noted held.format pages held.acts held.pool c.note_written.new.self honest m held.holds c.note_written.ensures.pages
+    (written_noted held.format pages held.acts held.pool honest m held.holds c.law.ensures c.note_written.new.self c.args.place c.args.block c.requires.at c.requires.home c.note_written.ensures)
 
 pub invariant_of-self-clause-waits : goal.invariant_of-self-clause-waits
 invariant_of-self-clause-waits g c =
@@ -31,8 +31,8 @@ returns-clause-quiet g c =
     let pages = pages_now held.history in
     let m = (g.D.Device.trace held.device).now in
     let honest = g.D.Device.is_honest held.device in
-    let noted = written_noted held.limits pages held.acts held.pool honest m held.holds c.law.ensures c.note_written.new.self c.args.place
+    let noted = written_noted held.format pages held.acts held.pool honest m held.holds c.law.ensures c.note_written.new.self c.args.place
     c.args.block c.requires.at c.requires.home c.note_written.ensures in
     quiet_noted g.D.Device held _ refl refl refl refl refl refl refl
     (subst (λ xs. IsPartOf xs (changed_of held.pool)) (sym c.note_written.ensures.order) (part_remove (changed_of held.pool) c.args.place))
-    (follows_noted (held_of g.D.Device held) _ _ held.limits held.log_limits noted)
+    (follows_noted (held_of g.D.Device held) _ _ held.format held.log_format noted)

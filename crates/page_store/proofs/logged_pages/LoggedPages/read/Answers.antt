@@ -18,7 +18,7 @@ the_page g c = page_in_use (pages_now c.args.self.now.history) c.args.block (sub
 gives : (g : Over) (c : After-read_page g) → g.D.Device.is_honest c.read_page.new.device ≡ true → GivesPage (the_page g c).0 c.read_page.new.page c.read_page.result
 gives g c honest =
     let held = c.args.self.now in
-    read_gives held.limits (pages_now held.history) held.acts held.pool (g.D.Device.is_honest held.device) (g.D.Device.trace held.device).now held.holds held.stored
+    read_gives held.format (pages_now held.history) held.acts held.pool (g.D.Device.is_honest held.device) (g.D.Device.trace held.device).now held.holds held.stored
     c.args.block (the_page g c).0 c.read_page.new.page c.read_page.result (the_page g c).1 (clean_of_absent held.pool c.law.ensures c.args.block c.requires.absent) (c.read_page.ensures.honest honest)
     (λ there stored has. c.read_page.ensures.read honest there stored has)
 

@@ -13,10 +13,10 @@ at : (g : Over) (c : After-page-item g) → slice_get c.args.pages.now c.loop-pa
 at g c = slice_get_at c.args.pages.now c.loop-page.page-index c.page-item.result c.loop-page-test.true c.page-item.is
 
 -- it may be stored, at a block below the limit
-may : (g : Over) (c : After-page-item g) → IsStored c.loop-page.self.limits c.page-item.result.block c.page-item.result × (c.page-item.result.block < c.loop-page.self.limits.pages)
+may : (g : Over) (c : After-page-item g) → IsStored c.loop-page.self.format c.page-item.result.block c.page-item.result × (c.page-item.result.block < c.loop-page.self.format.pages)
 may g c =
-    subst (λ (l : Format). IsStored l c.page-item.result.block c.page-item.result × (c.page-item.result.block < l.pages)) (sym c.loop-page.invariant.quiet.pages.limits)
-    (actable_at c.args.self.now.limits _ c.args.pages.now c.loop-page.page-index c.page-item.result c.requires.actable (at g c))
+    subst (λ (l : Format). IsStored l c.page-item.result.block c.page-item.result × (c.page-item.result.block < l.pages)) (sym c.loop-page.invariant.quiet.pages.format)
+    (actable_at c.args.self.now.format _ c.args.pages.now c.loop-page.page-index c.page-item.result c.requires.actable (at g c))
 
 -- the frames for those before, and for the page
 one_more : (g : Over) (c : After-take_frame g)

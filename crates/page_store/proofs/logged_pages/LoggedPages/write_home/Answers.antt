@@ -8,13 +8,13 @@ use Rattle.page_store.proofs.logged_pages.LoggedPages.write_home.Goals.{After-wr
 use Rattle.page_store.proofs.logged_pages.LoggedPages.write_home.Goals as goal
 
 -- only the block's place changes
-only : (g : Over) (c : After-write_page g) → ChangesOnly (place c.args.self.now.limits c.args.block) 4096 (g.D.Device.trace c.args.self.now.device).now (g.D.Device.trace c.write_page.new.device).now
+only : (g : Over) (c : After-write_page g) → ChangesOnly (place c.args.self.now.format c.args.block) 4096 (g.D.Device.trace c.args.self.now.device).now (g.D.Device.trace c.write_page.new.device).now
 only g c = goes_now _ (g.D.Device.trace c.args.self.now.device) (g.D.Device.trace c.write_page.new.device) c.write_page.ensures.moments (same_only _ 4096 _)
 
 pub invariant_of-self-clause-holds : goal.invariant_of-self-clause-holds
 invariant_of-self-clause-holds g c =
     let held = c.args.self.now in
-    holds_written held.limits _ held.acts held.pool _ (g.D.Device.trace held.device).now (g.D.Device.trace c.write_page.new.device).now held.holds _
+    holds_written held.format _ held.acts held.pool _ (g.D.Device.trace held.device).now (g.D.Device.trace c.write_page.new.device).now held.holds _
     c.args.block c.write_page.ensures.honest held.stored c.requires.changed (only g (goal.at.invariant_of-self-clause-holds g c).After-write_page)
 
 pub returns-in-Some-clause-steps : goal.returns-in-Some-clause-steps
@@ -24,7 +24,7 @@ returns-in-Some-clause-steps g c =
     (g.D.Device.failures c.write_page.new.device) c.requires.alive c.requires.changed c.requires.durable
     (subst (λ (l : Format).
     AtEachMoment (ChangesOnly (place l c.args.block) 4096 (g.D.Device.trace held.device).now) (g.D.Device.trace held.device)
-    (g.D.Device.trace c.write_page.new.device)) (sym held.log_limits) c.write_page.ensures.moments) c.write_page.ensures.honest
+    (g.D.Device.trace c.write_page.new.device)) (sym held.log_format) c.write_page.ensures.moments) c.write_page.ensures.honest
     (counts_rise c.write_page.result _ _ c.write_page.ensures.failures)
 
 pub returns-in-Some-clause-only : goal.returns-in-Some-clause-only

@@ -16,19 +16,19 @@ law g c = subst IsPool (sym c.loop-written.invariant.same.pool) c.law.ensures
 
 -- the same under equal limits, of an equal pool
 moved : (l k : Format) (p q : Pool) (count : ℕ) (m : DiskMoment) → l ≡ k → p ≡ q → AreWrittenUpTo l p count m → AreWrittenUpTo k q count m
-moved l k p q count m same_limits same_pool home =
-    subst (λ (x : Pool). AreWrittenUpTo k x count m) same_pool (subst (λ (x : Format). AreWrittenUpTo x p count m) same_limits home)
+moved l k p q count m same_format same_pool home =
+    subst (λ (x : Pool). AreWrittenUpTo k x count m) same_pool (subst (λ (x : Format). AreWrittenUpTo x p count m) same_format home)
 
 -- those before it stand at their places
-before : (g : Over) (c : After-write_home g) → AreWrittenUpTo c.loop-written.self.limits c.loop-written.self.pool c.loop-written.written (g.D.Device.trace c.loop-written.self.device).now
+before : (g : Over) (c : After-write_home g) → AreWrittenUpTo c.loop-written.self.format c.loop-written.self.pool c.loop-written.written (g.D.Device.trace c.loop-written.self.device).now
 before g c =
     let same = c.loop-written.invariant.same in
-    moved _ _ _ _ c.loop-written.written (g.D.Device.trace c.loop-written.self.device).now (sym same.pages.limits) (sym same.pool) c.loop-written.invariant.home
+    moved _ _ _ _ c.loop-written.written (g.D.Device.trace c.loop-written.self.device).now (sym same.pages.format) (sym same.pool) c.loop-written.invariant.home
 
 pub loop-written-init : goal.loop-written-init
 loop-written-init g c = record {
   steps = follows_same (held_of g.D.Device c.args.self.now);
-  same = record { log = refl; pool = refl; pages = record { limits = refl; history = refl; used = refl; acts = refl }; durable = refl; room = record { room = refl; promised = refl }; honest = refl };
+  same = record { log = refl; pool = refl; pages = record { format = refl; history = refl; used = refl; acts = refl }; durable = refl; room = record { room = refl; promised = refl }; honest = refl };
   few = omega (arith, c.requires.none);
   home = λ block page among found.
       let none : take c.args.written.now (changed_of c.args.self.now.pool) ≡ [] = ap (λ n. take n (changed_of c.args.self.now.pool)) c.requires.none in
@@ -51,8 +51,8 @@ returns-in_err-write_home-clause-home g c =
     let held = c.loop-written.self in
     let m = (g.D.Device.trace held.device).now in
     let n = (g.D.Device.trace c.write_home.new.self.device).now in
-    moved _ _ _ _ c.loop-written.written n c.loop-written.invariant.same.pages.limits c.loop-written.invariant.same.pool
-    (up_to_same held.limits (pages_now held.history) held.acts held.pool (g.D.Device.is_honest held.device) m held.holds (law g here) n
+    moved _ _ _ _ c.loop-written.written n c.loop-written.invariant.same.pages.format c.loop-written.invariant.same.pool
+    (up_to_same held.format (pages_now held.history) held.acts held.pool (g.D.Device.is_honest held.device) m held.holds (law g here) n
     c.loop-written.written c.in-Some.block (at g here) (before g here) c.write_home.ensures.only)
 
 pub returns-in_err-write_home-clause-steps : goal.returns-in_err-write_home-clause-steps
@@ -74,7 +74,7 @@ loop-written-preserved g c =
         log = s.log ∙ i.same.log;
         pool = s.pool ∙ i.same.pool;
         pages = record {
-          limits = s.pages.limits ∙ i.same.pages.limits;
+          format = s.pages.format ∙ i.same.pages.format;
           history = s.pages.history ∙ i.same.pages.history;
           used = s.pages.used
               ∙ i.same.pages.used;
@@ -85,9 +85,9 @@ loop-written-preserved g c =
         honest = s.honest ∙ i.same.honest;
       };
       few = omega (arith, c.loop-written-test.true, c.changed-count.ensures);
-      home = subst (λ (k : ℕ). AreWrittenUpTo c.args.self.now.limits c.args.self.now.pool k n) more
-          (moved _ _ _ _ (suc c.loop-written.written) n i.same.pages.limits i.same.pool
-          (up_to_next held.limits (pages_now held.history) held.acts held.pool (g.D.Device.is_honest held.device) m held.holds (law g here) n
+      home = subst (λ (k : ℕ). AreWrittenUpTo c.args.self.now.format c.args.self.now.pool k n) more
+          (moved _ _ _ _ (suc c.loop-written.written) n i.same.pages.format i.same.pool
+          (up_to_next held.format (pages_now held.history) held.acts held.pool (g.D.Device.is_honest held.device) m held.holds (law g here) n
           c.loop-written.written c.in-Some.block (at g here) (before g here)
           (λ page found. c.in_ok-write_home.ensures.written page found) c.write_home.ensures.only));
       failures = c.in_ok-write_home.ensures.failures ∙ i.failures;

@@ -8,7 +8,7 @@ invariant-loop-written g l = record {
   steps : Follows (held_of g.D.Device l.fn.self) (held_of g.D.Device l.self);
   same : SameButDevice g.D.Device l.fn.self l.self;
   few : l.written ≤ length (changed_of l.fn.self.pool);
-  home : AreWrittenUpTo l.fn.self.limits l.fn.self.pool l.written (g.D.Device.trace l.self.device).now;
+  home : AreWrittenUpTo l.fn.self.format l.fn.self.pool l.written (g.D.Device.trace l.self.device).now;
   failures : g.D.Device.failures l.self.device ≡ g.D.Device.failures l.fn.self.device;
 }
 

@@ -3,7 +3,7 @@ use Rattle.page_store.proofs.store.Store.crash_law.Goals as goal
 
 pub returns-clause-restarts : goal.returns-clause-restarts
 returns-clause-restarts g c = λ first image own follows left.
-    crash_restarts first (held_by g.D.Device c.args.self.now) own follows c.args.self.now.held.limits image c.args.self.now.held.log_limits left
+    crash_restarts first (held_by g.D.Device c.args.self.now) own follows c.args.self.now.held.format image c.args.self.now.held.log_format left
 
 pub returns-clause-pages : goal.returns-clause-pages
 returns-clause-pages g c = λ first own follows. pages_were first (held_by g.D.Device c.args.self.now) own follows

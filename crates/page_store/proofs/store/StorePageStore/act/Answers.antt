@@ -29,8 +29,8 @@ calls_are : (g : Over) (c : After-note g)
 calls_are g c = c.note.ensures
     ∙ ap (λ (t : TableOfCalls). record t { counted = with_counts t.counted c.args.pages.now; waiting = with_all_waiting t.waiting c.args.pages.now }) c.take_frames.ensures.calls
 
-limits_are : (g : Over) (c : After-note g) → c.act.new.self.limits ≡ c.args.self.now.held.limits
-limits_are g c = c.act.ensures.limits ∙ c.take_frames.ensures.quiet.pages.limits
+format_is : (g : Over) (c : After-note g) → c.act.new.self.format ≡ c.args.self.now.held.format
+format_is g c = c.act.ensures.format ∙ c.take_frames.ensures.quiet.pages.format
 
 pub invariant_of-self-2-clause-counts : goal.invariant_of-self-2-clause-counts
 invariant_of-self-2-clause-counts g c =
@@ -47,7 +47,7 @@ invariant_of-self-2-clause-waiting g c =
     let changed = c.args.pages.now in
     subst (λ (after : List Page). AreWaiting c.note.new.self.waiting after c.note.new.self.counted) (sym (pages_are g here))
     (subst (λ (calls : TableOfCalls). AreWaiting calls.waiting (with_pages pages changed) calls.counted) (sym (calls_are g here))
-    (write_waits store.held.limits (length pages) store.calls.waiting pages store.calls.counted changed c.requires.actable (omega arith)
+    (write_waits store.held.format (length pages) store.calls.waiting pages store.calls.counted changed c.requires.actable (omega arith)
     store.count_room store.counts store.waiting))
 
 pub invariant_of-self-2-clause-count_room : goal.invariant_of-self-2-clause-count_room
@@ -55,8 +55,8 @@ invariant_of-self-2-clause-count_room g c =
     let here = (goal.at.invariant_of-self-2-clause-count_room g c).After-note in
     let store = c.args.self.now in
     let same = ap (λ (t : TableOfCalls). length t.waiting) (calls_are g here) in
-    let limits = ap (λ (l : Format). l.pages) (limits_are g here) in
-    omega (arith, same, limits, store.count_room, length-with_all_waiting store.calls.waiting c.args.pages.now)
+    let format = ap (λ (l : Format). l.pages) (format_is g here) in
+    omega (arith, same, format, store.count_room, length-with_all_waiting store.calls.waiting c.args.pages.now)
 
 pub returns-in_err-number-clause-steps : goal.returns-in_err-number-clause-steps
 returns-in_err-number-clause-steps g c = λ first before. follows_both _ (held_by g.D.Device c.args.self.now) _ before (steps g (goal.at.returns-in_err-number-clause-steps g c).After-act)
@@ -67,7 +67,7 @@ returns-clause-steps g c = λ first before. follows_both _ (held_by g.D.Device c
 pub returns-clause-done : goal.returns-clause-done
 returns-clause-done g c =
     let here = (goal.at.returns-clause-done g c).After-note in
-    state_alike _ _ _ _ _ _ _ _ _ _ (limits_are g here) (c.in_ok-number.ensures.pool.most ∙ c.take_frames.ensures.most) (pages_are g here)
+    state_alike _ _ _ _ _ _ _ _ _ _ (format_is g here) (c.in_ok-number.ensures.pool.most ∙ c.take_frames.ensures.most) (pages_are g here)
     (c.in_ok-number.ensures.acts ∙ ap suc c.take_frames.ensures.quiet.pages.acts) (calls_are g here)
 
 pub returns-in-Err-clause-steps : goal.returns-in-Err-clause-steps

@@ -12,12 +12,12 @@ returns-then-not-fits-clause-cause c =
 pub take_all-requires-clause-inside : goal.take_all-requires-clause-inside
 take_all-requires-clause-inside c =
     let s = c.args.self.now in
-    subst (λ (n : ℕ). AreInside n c.args.images.now) (sym s.tabled) (images_inside s.limits c.args.images.now c.requires.images)
+    subst (λ (n : ℕ). AreInside n c.args.images.now) (sym s.tabled) (images_inside s.format c.args.images.now c.requires.images)
 
 pub take_all-requires-clause-room : goal.take_all-requires-clause-room
 take_all-requires-clause-room c =
     let s = c.args.self.now in
-    fits_listed s.at _ s.limits.log_bytes _ s.listed (fits_with s c.args.images.now (OnTrue_at c.if-not-fits.false c.fits.ensures.fit))
+    fits_listed s.at _ s.format.log_bytes _ s.listed (fits_with s c.args.images.now (OnTrue_at c.if-not-fits.false c.fits.ensures.fit))
 
 pub invariant_of-self-clause-named : goal.invariant_of-self-clause-named
 invariant_of-self-clause-named c =
@@ -28,7 +28,7 @@ invariant_of-self-clause-named c =
 pub invariant_of-self-clause-fits : goal.invariant_of-self-clause-fits
 invariant_of-self-clause-fits c =
     let s = c.args.self.now in
-    subst (λ (l : List ℕ). 0 < length l → s.at + (6 + 4096 * length l) ≤ s.limits.log_bytes) (sym c.take_all.ensures.blocks)
+    subst (λ (l : List ℕ). 0 < length l → s.at + (6 + 4096 * length l) ≤ s.format.log_bytes) (sym c.take_all.ensures.blocks)
     (fits_with s c.args.images.now (OnTrue_at c.if-not-fits.false c.fits.ensures.fit))
 
 pub invariant_of-self-clause-some_ajar : goal.invariant_of-self-clause-some_ajar
@@ -40,7 +40,7 @@ pub returns-clause-keeps : goal.returns-clause-keeps
 returns-clause-keeps c =
     let s = c.args.self.now in
     let images = c.args.images.now in
-    keeps_more s _ images refl refl refl refl refl (λ kept k. kept_more s.limits _ _ _ _ images kept c.take_all.ensures.blocks c.take.ensures c.requires.images k)
+    keeps_more s _ images refl refl refl refl refl (λ kept k. kept_more s.format _ _ _ _ images kept c.take_all.ensures.blocks c.take.ensures c.requires.images k)
 
 pub returns-clause-room : goal.returns-clause-room
 returns-clause-room c = λ n.

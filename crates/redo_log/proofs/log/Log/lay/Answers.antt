@@ -19,4 +19,4 @@ invariant_of-self-clause-laid_out c =
 
 pub returns-clause-keeps : goal.returns-clause-keeps
 returns-clause-keeps c = λ m acts forced k.
-    keeps_laid c.args.self.now _ (record { same = record { limits = refl; actions = refl }; stopped = refl; written = refl; ajar = refl; end = refl; blocks = refl; images = refl }) m acts forced k
+    keeps_laid c.args.self.now _ (record { same = record { format = refl; actions = refl }; stopped = refl; written = refl; ajar = refl; end = refl; blocks = refl; images = refl }) m acts forced k

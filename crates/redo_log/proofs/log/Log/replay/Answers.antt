@@ -6,4 +6,4 @@ use Rattle.redo_log.proofs.log.Log.replay.Goals as goal
 pub returns-then-branch-clause-damaged : goal.returns-then-branch-clause-damaged
 returns-then-branch-clause-damaged g c = λ damaged honest groups spells.
     c.replay_range.ensures.damaged damaged honest groups
-    (subst (λ (t : Trace). SpellsGroups c.args.limits (log_range c.args.limits t.now.seen) groups) (sym c.in_ok-is_gate_open.ensures.trace) spells)
+    (subst (λ (t : Trace). SpellsGroups c.args.format (log_range c.args.format t.now.seen) groups) (sym c.in_ok-is_gate_open.ensures.trace) spells)
