@@ -94,7 +94,8 @@ fn is_too_much(
     block: u32,
 ) -> bool
     ensures { IsTrue result
-        ↔ IsTooMuch root (record { low = low.now; left = left; left_is_split = left_is_split }) block }
+        ↔ IsTooMuch root
+        (record { low = low.now; left = left; left_is_split = left_is_split }) block }
 {
     match root {
         None => false,

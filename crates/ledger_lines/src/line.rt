@@ -27,8 +27,8 @@ pub enum LedgerLine<'a> {
 pub fn parse(text: &[u8]) -> Option<Result<LedgerLine<'_>, Fault>>
     ensures ok { IfSome result (λ read. IfOk read (λ line. words_of text.now ≡ ledger_words line)) }
     ensures valid { IfSome result (λ read. IfOk read HasLedgerValues) }
-    ensures only { (line : LedgerLine) → HasLedgerValues line → words_of text.now ≡ ledger_words line
-        → result ≡ Some (Ok line) }
+    ensures only { (line : LedgerLine) → HasLedgerValues line
+        → words_of text.now ≡ ledger_words line → result ≡ Some (Ok line) }
     ensures refused { (fault : Fault) → result ≡ Some (Err fault)
         → LedgerLineFails fault (words_of text.now) }
     ensures only_refused { (fault : Fault) → LedgerLineFails fault (words_of text.now)

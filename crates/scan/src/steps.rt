@@ -204,7 +204,8 @@ impl ScanOp {
         ensures copied { IsAscending entries.now → IsCopiedFrom entries.now self.old.frontier
             self.old.range.below self.new.copied.items }
         ensures many { length self.new.copied.items ≤ 50 }
-        ensures op { self.new ≡ after_reading self.old page.now.high page.now.right self.new.copied.items }
+        ensures op { self.new
+            ≡ after_reading self.old page.now.high page.now.right self.new.copied.items }
     {
         self.copied = matches_beyond(entries, &self.frontier, &self.range.below);
         self.given = 0;
