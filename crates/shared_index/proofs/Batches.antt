@@ -1,5 +1,5 @@
 -- Parts of a scan, one behind the other.
-use Rattle.std.proofs.Common.{◌≡◌, ◌<◌, ◌+◌, ℕ, Bool, true, false, List, [], ◌∷◌, ◌++◌, length, Option, Some, None, unwrap_or, refl, sym, ap, ◌∙◌, append_assoc, length-append, inl, is_some, IsSome, arith}
+use Rattle.std.proofs.Common.{◌≡◌, ◌<◌, ◌+◌, ℕ, Bool, true, false, List, [], ◌∷◌, ◌++◌, length, Option, Some, None, unwrap_or, refl, sym, ap, ◌∙◌, append_assoc, length-append, is_some, IsSome, arith}
 use Rattle.std.proofs.lemmas.List.{append-nil}
 use Rattle.index_model.specs.declared.entry.Entry.{Entry}
 use Rattle.session_calls.specs.declared.answer.Answer.{Answer}
@@ -12,7 +12,6 @@ use Rattle.session_seats.specs.declared.call.PendingCall.{PendingCall}
 use Rattle.session_seats.specs.declared.job.Job.{Job}
 use Rattle.session_seats.specs.declared.job.Job.TheVariants.{Insert, Scan, Bulk, Cleanup, Commit, Checkpoint}
 use Rattle.session_seats.specs.declared.seating.SessionView.{SessionView}
-use Rattle.shared_world.specs.Acted.{MayBeLeft}
 use Rattle.shared_world.specs.Jobs.{IsBelowRoom, room_of}
 use Rattle.shared_world.specs.Leaving.{LeavesCall, RunsItsCall, call_in}
 use Rattle.shared_index.specs.Scanning.{HasTakenMore, RunsScan, ScanGoesOn, ScanLeaves, SeatScans, scan_room}
@@ -26,15 +25,6 @@ below_room (Bulk set) given l = tt
 below_room Cleanup given l = tt
 below_room Commit given l = tt
 below_room Checkpoint given l = tt
-
--- ... and may be left
-pub may_be_left : (asked : Job) (given : List Entry) (ready : ℕ) → length given < room_of asked → MayBeLeft asked given ready
-may_be_left (Insert entry) given ready l = absurd (omega (arith, l))
-may_be_left (Scan range room) given ready l = inl l
-may_be_left (Bulk set) given ready l = absurd (omega (arith, l))
-may_be_left Cleanup given ready l = absurd (omega (arith, l))
-may_be_left Commit given ready l = absurd (omega (arith, l))
-may_be_left Checkpoint given ready l = absurd (omega (arith, l))
 
 -- a scan that runs has room
 pub runs_below : (count : ℕ) (v : SessionView) → RunsScan count v → length (call_in v).given < room_of (call_in v).asked

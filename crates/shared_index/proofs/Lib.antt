@@ -1,4 +1,5 @@
 pub mod Batches
 pub mod Closing
+pub mod Holding
 pub mod Learning
 pub mod Rows

@@ -3,7 +3,7 @@ use Rattle.std.specs.Prelude.{◌≡◌, ◌<◌, ℕ, Bool, false, Option, Some
 use Rattle.std.specs.Option.{ForSome}
 use Rattle.index_model.specs.declared.entry.Entry.{Entry}
 use Rattle.index_model.specs.declared.fault.Fault.{Fault}
-use Rattle.index_model.specs.declared.fault.Fault.TheVariants.{BadLimits}
+use Rattle.index_model.specs.declared.fault.Fault.TheVariants.{BadLimits, Blocked}
 use Rattle.index_model.specs.declared.range.Range.{Range}
 use Rattle.session_calls.specs.declared.answer.Answer.{Answer}
 use Rattle.session_seats.specs.Seats.{view_of}
@@ -59,9 +59,11 @@ pub record HasTakenMore (over : Option Answer) (before after : List Entry) (old 
   pub after_is : after ≡ before ++ more
   pub leaves : ScanLeaves over more old new
 
--- what is told of a scan that is open still: that there is no room, or that it may give no more
+-- what is told of a scan that is open still: that there is no room, that it is blocked by a page, or that it
+-- may give no more
 abbrev pub TellsOpen : Result Bool Fault → Type 0
 TellsOpen (Ok over) = over ≡ false
+TellsOpen (Err (Blocked page)) = Unit {0}
 TellsOpen (Err BadLimits) = Unit {0}
 TellsOpen (Err fault) = ⊥
 

@@ -7,6 +7,7 @@ use Rattle.session_seats.specs.declared.call.CompletedCall.{CompletedCall}
 use Rattle.session_seats.specs.declared.call.PendingCall.{PendingCall}
 use Rattle.session_seats.specs.declared.group.SessionGroup.{Ghosts}
 use Rattle.session_seats.specs.declared.job.Job.{Job}
+use Rattle.session_seats.specs.declared.job.Job.TheVariants.{Scan}
 use Rattle.session_seats.specs.declared.seat.SessionSeat.{SessionSeat}
 use Rattle.session_seats.specs.declared.seating.SessionView.{SessionView}
 use Rattle.shared_world.specs.Leaving.{RunsItsCall, call_in}
@@ -47,6 +48,18 @@ pub record HasTold {A : Type 0} (asked : Job) (told_by : Answer → A) (told : A
   pub answer : Answer
   pub had : HasHadCall asked answer old new
   pub told_is : told ≡ told_by answer
+
+-- ... of a call that may be given up: it is told which page blocked it then
+pub record HasToldOrBlocked {A : Type 0} (asked : Job) (told_by : ℕ → Answer → A) (told : A) (old new : List (ℕ × CompletedCall)) : Type 0 where
+  pub answer : Answer
+  pub page : ℕ
+  pub had : HasHadCall asked answer old new
+  pub told_is : told ≡ told_by page answer
+
+-- it asks for no scan
+abbrev pub IsNoScan : Job → Type 0
+IsNoScan (Scan range room) = ⊥
+IsNoScan job = Unit {0}
 
 -- a session runs a call that was asked this
 pub record RunsJob (asked : Job) (v : SessionView) : Type 0 where

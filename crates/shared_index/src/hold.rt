@@ -1,9 +1,9 @@
 //! One hold of the lock: events of one session's call.
 
-ghost use Rattle.std.specs.Prelude.{◌≡◌, None};
+ghost use Rattle.std.specs.Prelude.{◌≡◌, None, Some};
 ghost use Rattle.session_seats.specs.Seats.{view_of};
 ghost use Rattle.shared_world.specs.Leaving.{RunsItsCall, call_in};
-ghost use Rattle.shared_index.specs.Sessions.{HoldLeaves};
+ghost use Rattle.shared_index.specs.Sessions.{HoldLeaves, IsNoScan};
 
 use index_model::{DeadRows, Fault};
 use page_action::PageStore;
@@ -22,13 +22,18 @@ pub struct HoldEnd<J: SessionGroup> {
     pub answer: Option<Answer>,
     /// Whether there was an event that wasn't blocked.
     pub moved: bool,
-    /// Whether the last step was blocked.
-    pub blocked: bool,
+    /// The page by which the last step was blocked.
+    pub blocked: Option<u32>,
+    /// Whether the call can't be given up, since its entry is added.
+    pub is_bound: bool,
 }
 
-/// Whether a step was blocked.
-pub fn is_blocked(answer: &Answer) -> bool {
-    matches!(answer, Answer::Refused(Fault::Blocked(_)))
+/// The page by which a step was blocked.
+pub fn blocked_by(answer: &Answer) -> Option<u32> {
+    match answer {
+        Answer::Refused(Fault::Blocked(page)) => Some(*page),
+        _ => None,
+    }
 }
 
 // A hold after which the call is over, with this answer.
@@ -40,29 +45,70 @@ fn over<J: SessionGroup>(seat: SessionSeat<J>, answer: Answer) -> HoldEnd<J>
         seat,
         answer: Some(answer),
         moved: true,
-        blocked: false,
+        blocked: None,
+        is_bound: false,
     }
 }
 
 // A hold after which the call runs on.
-fn running<J: SessionGroup>(seat: SessionSeat<J>, moved: bool, blocked: bool) -> HoldEnd<J>
+fn running<J: SessionGroup>(seat: SessionSeat<J>) -> HoldEnd<J>
     ensures seat { result.seat ≡ seat }
     ensures answer { result.answer ≡ None }
 {
     HoldEnd {
         seat,
         answer: None,
-        moved,
-        blocked,
+        moved: true,
+        blocked: None,
+        is_bound: false,
     }
 }
 
-/// Steps of the session's call, until it is over, or blocked, or has had its share.
+// The end of a hold whose last step was blocked by this page, after it had moved or not. If the call is to be
+// given up, it is, unless its entry is added.
+fn stopped<S: PageStore, T: DeadRows + Drop, J: OriginOn<S>>(
+    live: &mut Live<S, T, J>,
+    seat: SessionSeat<J>,
+    page: u32,
+    moved: bool,
+    gives_up: bool,
+) -> HoldEnd<J>
+    requires runs { RunsItsCall (view_of seat.pass) }
+    requires writes { IsNoScan (call_in (view_of seat.pass)).asked }
+    ensures session { result.seat.session ≡ seat.session }
+    ensures told { HoldLeaves (call_in (view_of seat.pass)).asked result.answer
+        (view_of seat.pass) (view_of result.seat.pass) }
+{
+    let is_bound = live.world.added(seat.session).is_some();
+    let blocked = Some(page);
+    if gives_up && !is_bound {
+        let seat = live.end(seat);
+        return HoldEnd {
+            seat,
+            answer: Some(Answer::Ended),
+            moved: true,
+            blocked,
+            is_bound,
+        };
+    }
+    HoldEnd {
+        seat,
+        answer: None,
+        moved,
+        blocked,
+        is_bound,
+    }
+}
+
+/// Steps of the session's call, until it is over, or blocked, or has had its share. If it is to be given up,
+/// it is when it is blocked, unless its entry is added.
 pub fn go_on<S: PageStore, T: DeadRows + Drop, J: OriginOn<S>>(
     live: &mut Live<S, T, J>,
     seat: SessionSeat<J>,
+    gives_up: bool,
 ) -> HoldEnd<J>
     requires runs { RunsItsCall (view_of seat.pass) }
+    requires writes { IsNoScan (call_in (view_of seat.pass)).asked }
     ensures session { result.seat.session ≡ seat.session }
     ensures told { HoldLeaves (call_in (view_of seat.pass)).asked result.answer
         (view_of seat.pass) (view_of result.seat.pass) }
@@ -78,11 +124,11 @@ pub fn go_on<S: PageStore, T: DeadRows + Drop, J: OriginOn<S>>(
         if is_over {
             return over(mine, answer);
         }
-        if is_blocked(&answer) {
-            return running(mine, step > 0, true);
+        if let Some(page) = blocked_by(&answer) {
+            return stopped(live, mine, page, step > 0, gives_up);
         }
     }
-    running(mine, true, false)
+    running(mine)
 }
 
 /// Begins a call of the session, and goes on with it.
@@ -92,6 +138,7 @@ pub fn begin_and_go_on<S: PageStore, T: DeadRows + Drop, J: OriginOn<S>>(
     asked: Job,
 ) -> HoldEnd<J>
     requires idle { (view_of seat.pass).call ≡ None }
+    requires writes { IsNoScan asked }
     ensures session { result.seat.session ≡ seat.session }
     ensures told { HoldLeaves asked result.answer (view_of seat.pass) (view_of result.seat.pass) }
 {
@@ -103,5 +150,5 @@ pub fn begin_and_go_on<S: PageStore, T: DeadRows + Drop, J: OriginOn<S>>(
     if is_over {
         return over(seat, answer);
     }
-    go_on(live, seat)
+    go_on(live, seat, false)
 }

@@ -5,31 +5,46 @@ ghost use Rattle.session_seats.specs.Seats.{view_of};
 ghost use Rattle.session_seats.specs.declared.job.Job.{Job as Asked};
 ghost use Rattle.shared_world.specs.Leaving.{RunsItsCall, call_in};
 ghost use Rattle.shared_index.specs.Scanning.{HasBegunScan, HasTakenMore, RunsScan, ScanIsOver, scan_room};
-ghost use Rattle.shared_index.specs.Sessions.{HasHadCall, HoldLeaves};
+ghost use Rattle.shared_index.specs.Sessions.{HasHadCall, HoldLeaves, IsNoScan};
 
-use crate::hold::{HoldEnd, begin_and_go_on, go_on};
+use crate::hold::HoldEnd;
+use crate::locked::{LockedIndex, is_vacuum};
+use crate::patience::Patience;
 use crate::rounds::CommitRounds;
 use crate::scan_hold::{ScanHold, ScanTurn, take};
 use index_model::{DeadRows, Entry, Range};
 use page_action::PageStore;
 use session_calls::Answer;
-use session_seats::SessionSeat;
+use session_seats::{SessionGroup, SessionSeat};
 use shared_world::{Job, Live, OriginOn, SessionTurn};
-use std::sync::{Condvar, Mutex, MutexGuard, Wait};
+use std::sync::{Condvar, CondvarTimeouts, Mutex, MutexGuard, Wait};
+use std::time::{Clock, Duration};
 
 /// An index that many threads use at once, each with a session of its own.
 pub struct SharedIndex<S: PageStore, T: DeadRows + Drop, J: OriginOn<S>> {
-    slot: Mutex<Live<S, T, J>>,
+    slot: Mutex<LockedIndex<S, T, J>>,
     // Rung by each hold that has moved.
     freed: Condvar,
     pub(crate) rounds: CommitRounds,
+}
+
+/// What a whole call leaves a session.
+#[derive(Drop)]
+pub struct CallEnd<J: SessionGroup> {
+    pub seat: SessionSeat<J>,
+    pub answer: Answer,
+    /// If it was given up, the page by which it was blocked.
+    pub page: u32,
 }
 
 impl<S: PageStore, T: DeadRows + Drop, J: OriginOn<S>> SharedIndex<S, T, J> {
     /// What threads share, with this under its lock.
     pub fn new(live: Live<S, T, J>) -> SharedIndex<S, T, J> {
         SharedIndex {
-            slot: Mutex::new(live),
+            slot: Mutex::new(LockedIndex {
+                live,
+                vacuums: None,
+            }),
             freed: Condvar::new(),
             rounds: CommitRounds::new(),
         }
@@ -42,76 +57,126 @@ impl<S: PageStore, T: DeadRows + Drop, J: OriginOn<S>> SharedIndex<S, T, J> {
             freed: _,
             rounds: _,
         } = self;
-        slot.into_inner()
+        let LockedIndex { live, vacuums: _ } = slot.into_inner();
+        live
     }
 
-    // Lets the lock go. If the call is blocked, waits first until another hold has moved.
-    fn let_go<R: Wait>(
-        &self,
-        rt: &R,
-        guard: MutexGuard<'_, Live<S, T, J>>,
-        moved: bool,
-        blocked: bool,
-    ) {
-        let seen = guard.moves;
+    // Lets the lock go.
+    fn let_go(&self, guard: MutexGuard<'_, LockedIndex<S, T, J>>, moved: bool) {
+        drop(guard);
         if moved {
             self.freed.notify_all();
         }
-        if blocked {
-            let _guard = self.freed.wait_while(rt, guard, |live| live.moves == seen);
-        }
     }
 
-    // Holds of the session's call, until it is over.
-    fn finish<R: Wait>(&self, rt: &R, seat: SessionSeat<J>) -> (SessionSeat<J>, Answer)
-        requires runs { RunsItsCall (view_of seat.pass) }
-        ensures session { result.0.session ≡ seat.session }
-        ensures told { HoldLeaves (call_in (view_of seat.pass)).asked (Some result.1)
-            (view_of seat.pass) (view_of result.0.pass) }
-    {
-        let mut mine = seat;
-        for _ in rt.forever() {
-            let mut guard = self.slot.lock(rt);
-            let HoldEnd {
-                seat,
-                answer,
-                moved,
-                blocked,
-            } = go_on(&mut *guard, mine);
-            self.let_go(rt, guard, moved, blocked);
-            mine = seat;
-            if let Some(answer) = answer {
-                return (mine, answer);
-            }
+    // Lets the lock go, and waits until another hold has moved, but not longer than this. Answers whether
+    // that is over.
+    fn wait<R: Wait + Clock>(
+        &self,
+        rt: &R,
+        guard: MutexGuard<'_, LockedIndex<S, T, J>>,
+        moved: bool,
+        left: Option<Duration>,
+    ) -> bool {
+        let seen = guard.live.moves;
+        if moved {
+            self.freed.notify_all();
         }
-        unreachable!()
+        let Some(left) = left else {
+            let _guard = self
+                .freed
+                .wait_while(rt, guard, |held| held.live.moves == seen);
+            return false;
+        };
+        let (_guard, timed) = self
+            .freed
+            .wait_timeout_while(rt, guard, left, |held| held.live.moves == seen);
+        timed.timed_out()
     }
 
-    /// A whole call of the session, by holds of at most 1,024 steps, with the lock let go between them.
-    pub(crate) fn call<R: Wait>(
+    // Waits until no bulk delete and no cleanup runs, but not beyond this patience.
+    fn wait_for_vacuum<'b, R: Wait + Clock>(
+        &'b self,
+        rt: &R,
+        guard: MutexGuard<'b, LockedIndex<S, T, J>>,
+        patience: &mut Patience,
+    ) -> MutexGuard<'b, LockedIndex<S, T, J>> {
+        if guard.vacuums.is_none() {
+            return guard;
+        }
+        let Some(left) = patience.left(rt) else {
+            return self
+                .freed
+                .wait_while(rt, guard, |held| held.vacuums.is_some());
+        };
+        let (guard, _) = self
+            .freed
+            .wait_timeout_while(rt, guard, left, |held| held.vacuums.is_some());
+        guard
+    }
+
+    // What follows a hold of a call that runs on: if it is blocked, it waits. Answers whether it is to be
+    // given up.
+    fn after<R: Wait + Clock>(
+        &self,
+        rt: &R,
+        guard: MutexGuard<'_, LockedIndex<S, T, J>>,
+        end: &HoldEnd<J>,
+        patience: &mut Patience,
+    ) -> bool {
+        if end.blocked.is_none() || end.answer.is_some() {
+            self.let_go(guard, end.moved);
+            return false;
+        }
+        let left = if end.is_bound {
+            None
+        } else {
+            patience.left(rt)
+        };
+        self.wait(rt, guard, end.moved, left)
+    }
+
+    /// A whole call of the session, by holds of at most 1,024 steps, with the lock let go between them. If
+    /// it is blocked for as long as this patience, it is given up, unless its entry is added. A bulk delete
+    /// or a cleanup begins when no other runs, or at the end of the patience.
+    pub(crate) fn call<R: Wait + Clock>(
         &self,
         rt: &R,
         seat: SessionSeat<J>,
         asked: Job,
-    ) -> (SessionSeat<J>, Answer)
+        patience: Option<Duration>,
+    ) -> CallEnd<J>
         requires idle { (view_of seat.pass).call ≡ None }
-        ensures session { result.0.session ≡ seat.session }
-        ensures idle { (view_of result.0.pass).call ≡ None }
-        ensures told { HasHadCall asked result.1
-            (view_of seat.pass).calls (view_of result.0.pass).calls }
+        requires writes { IsNoScan asked }
+        ensures session { result.seat.session ≡ seat.session }
+        ensures idle { (view_of result.seat.pass).call ≡ None }
+        ensures told { HasHadCall asked result.answer
+            (view_of seat.pass).calls (view_of result.seat.pass).calls }
     {
+        let mut patience = Patience::new(patience);
         let mut guard = self.slot.lock(rt);
-        let HoldEnd {
-            seat,
-            answer,
-            moved,
-            blocked,
-        } = begin_and_go_on(&mut *guard, seat, asked);
-        self.let_go(rt, guard, moved, blocked);
-        match answer {
-            Some(answer) => (seat, answer),
-            None => self.finish(rt, seat),
+        if is_vacuum(&asked) {
+            guard = self.wait_for_vacuum(rt, guard, &mut patience);
         }
+        let mut end = guard.begin(seat, asked);
+        let mut gives_up = self.after(rt, guard, &end, &mut patience);
+        for _ in rt.forever() {
+            let HoldEnd {
+                seat,
+                answer,
+                moved: _,
+                blocked,
+                is_bound: _,
+            } = end;
+            if let Some(answer) = answer {
+                let page = blocked.unwrap_or(0);
+                return CallEnd { seat, answer, page };
+            }
+            let mut guard = self.slot.lock(rt);
+            end = guard.go_on(seat, gives_up);
+            gives_up = self.after(rt, guard, &end, &mut patience);
+        }
+        unreachable!()
     }
 
     /// Begins a scan of the session. If that is refused, it is over.
@@ -131,19 +196,21 @@ impl<S: PageStore, T: DeadRows + Drop, J: OriginOn<S>> SharedIndex<S, T, J> {
     {
         let mut guard = self.slot.lock(rt);
         let room = u32::MAX;
-        let turn = guard.begin(seat, Job::Scan { range, room });
-        self.let_go(rt, guard, true, false);
+        let turn = guard.live.begin(seat, Job::Scan { range, room });
+        self.let_go(guard, true);
         turn
     }
 
     /// Entries of the session's scan, which has given so many, as many as there is room for, by holds of at
-    /// most 1,024 events. Ends before if the scan is over or may give no more.
-    pub(crate) fn batch<R: Wait>(
+    /// most 1,024 events. Ends before if the scan is over or may give no more, or is blocked for as long as
+    /// this patience.
+    pub(crate) fn batch<R: Wait + Clock>(
         &self,
         rt: &R,
         seat: SessionSeat<J>,
         count: u32,
         given: &mut Vec<Entry>,
+        patience: Option<Duration>,
     ) -> ScanTurn<J>
         requires runs { RunsScan count (view_of seat.pass) }
         ensures session { result.seat.session ≡ seat.session }
@@ -152,6 +219,7 @@ impl<S: PageStore, T: DeadRows + Drop, J: OriginOn<S>> SharedIndex<S, T, J> {
         ensures taken { HasTakenMore result.over given.old.items given.new.items
             (view_of seat.pass) (view_of result.seat.pass) }
     {
+        let mut patience = Patience::new(patience);
         let mut mine = seat;
         let mut taken = count;
         for _ in rt.forever() {
@@ -160,9 +228,15 @@ impl<S: PageStore, T: DeadRows + Drop, J: OriginOn<S>> SharedIndex<S, T, J> {
                 turn,
                 goes_on,
                 moved,
-            } = take(&mut *guard, mine, taken, given);
-            self.let_go(rt, guard, moved, turn.blocked);
-            if !goes_on {
+            } = take(&mut guard.live, mine, taken, given);
+            let mut is_late = false;
+            if goes_on && turn.blocked.is_some() {
+                let left = patience.left(rt);
+                is_late = self.wait(rt, guard, moved, left);
+            } else {
+                self.let_go(guard, moved);
+            }
+            if !goes_on || is_late {
                 return turn;
             }
             let ScanTurn { seat, count, .. } = turn;
@@ -184,8 +258,8 @@ impl<S: PageStore, T: DeadRows + Drop, J: OriginOn<S>> SharedIndex<S, T, J> {
         ensures left { ScanIsOver Answer.Ended [] (view_of seat.pass) (view_of result.pass) }
     {
         let mut guard = self.slot.lock(rt);
-        let seat = guard.end(seat);
-        self.let_go(rt, guard, true, false);
+        let seat = guard.live.end(seat);
+        self.let_go(guard, true);
         seat
     }
 }

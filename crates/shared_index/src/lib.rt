@@ -7,6 +7,8 @@ mod close;
 mod crew;
 mod hold;
 mod index;
+mod locked;
+mod patience;
 mod results;
 mod rounds;
 mod scan_hold;

@@ -7,24 +7,27 @@ use index_model::{Fault, VacuumStats};
 use session_calls::Answer;
 use whole_calls::Inserted;
 
-/// What an insert tells by its last answer.
-pub fn told_of_insert(answer: Answer) -> Result<Inserted, Fault>
-    ensures { result ≡ told_of_insert answer }
+/// What an insert tells by its last answer, and by the page by which it was blocked if it was given up.
+pub fn told_of_insert(page: u32, answer: Answer) -> Result<Inserted, Fault>
+    ensures { result ≡ told_of_insert page answer }
 {
     match answer {
         Answer::Added { action, unfinished } => Ok(Inserted { action, unfinished }),
         Answer::Refused(fault) => Err(fault),
+        Answer::Ended => Err(Fault::Blocked(page)),
         _ => Err(Fault::PageDamaged(0)),
     }
 }
 
-/// What a bulk delete or a cleanup tells by its last answer.
-pub fn told_of_vacuum(answer: Answer) -> Result<VacuumStats, Fault>
-    ensures { result ≡ told_of_vacuum answer }
+/// What a bulk delete or a cleanup tells by its last answer, and by the page by which it was blocked if it
+/// was given up.
+pub fn told_of_vacuum(page: u32, answer: Answer) -> Result<VacuumStats, Fault>
+    ensures { result ≡ told_of_vacuum page answer }
 {
     match answer {
         Answer::Finished(stats) => Ok(stats),
         Answer::Refused(fault) => Err(fault),
+        Answer::Ended => Err(Fault::Blocked(page)),
         _ => Err(Fault::PageDamaged(0)),
     }
 }

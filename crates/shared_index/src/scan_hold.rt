@@ -5,7 +5,7 @@ ghost use Rattle.session_seats.specs.Calls.{gift_of};
 ghost use Rattle.session_seats.specs.Seats.{view_of};
 ghost use Rattle.shared_index.specs.Scanning.{HasTakenMore, RunsScan, scan_room};
 
-use crate::hold::is_blocked;
+use crate::hold::blocked_by;
 use index_model::{DeadRows, Entry};
 use page_action::PageStore;
 use session_calls::Answer;
@@ -23,8 +23,8 @@ pub struct ScanTurn<J: SessionGroup> {
     pub count: u32,
     /// The answer of the scan, if it is over.
     pub over: Option<Answer>,
-    /// Whether the last step was blocked.
-    pub blocked: bool,
+    /// The page by which the last step was blocked.
+    pub blocked: Option<u32>,
 }
 
 /// What a hold of the lock leaves a session that gives a batch.
@@ -39,7 +39,7 @@ pub struct ScanHold<J: SessionGroup> {
 }
 
 // What a part leaves a scan that runs on.
-fn running<J: SessionGroup>(seat: SessionSeat<J>, count: u32, blocked: bool) -> ScanTurn<J>
+fn running<J: SessionGroup>(seat: SessionSeat<J>, count: u32, blocked: Option<u32>) -> ScanTurn<J>
     ensures seat { result.seat ≡ seat }
     ensures count { result.count ≡ count }
     ensures over { result.over ≡ None }
@@ -82,7 +82,7 @@ fn advance<S: PageStore, T: DeadRows + Drop, J: OriginOn<S>>(
     let (seat, answer) = live.next(seat);
     if let Some(entry) = gift(&answer) {
         given.push_reserved(entry);
-        return running(seat, count + 1, false);
+        return running(seat, count + 1, None);
     }
     let SessionTurn { seat, answer, over } = live.step(seat);
     if over {
@@ -90,10 +90,10 @@ fn advance<S: PageStore, T: DeadRows + Drop, J: OriginOn<S>>(
             seat,
             count,
             over: Some(answer),
-            blocked: false,
+            blocked: None,
         };
     }
-    running(seat, count, is_blocked(&answer))
+    running(seat, count, blocked_by(&answer))
 }
 
 /// Entries of the session's scan and steps of it, until it is over, or blocked, or there is no room, or it
@@ -118,13 +118,13 @@ pub fn take<S: PageStore, T: DeadRows + Drop, J: OriginOn<S>>(
         let moved = turns > 0;
         if given.len() >= given.capacity() || taken >= u32::MAX - 1 {
             return ScanHold {
-                turn: running(mine, taken, false),
+                turn: running(mine, taken, None),
                 goes_on: false,
                 moved,
             };
         }
         let turn = advance(live, mine, taken, given);
-        if turn.over.is_some() || turn.blocked {
+        if turn.over.is_some() || turn.blocked.is_some() {
             let goes_on = turn.over.is_none();
             return ScanHold {
                 turn,
@@ -137,7 +137,7 @@ pub fn take<S: PageStore, T: DeadRows + Drop, J: OriginOn<S>>(
         taken = count;
     }
     ScanHold {
-        turn: running(mine, taken, false),
+        turn: running(mine, taken, None),
         goes_on: true,
         moved: true,
     }

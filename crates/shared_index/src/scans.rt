@@ -14,6 +14,7 @@ use session_calls::Answer;
 use session_seats::SessionGroup;
 use shared_world::{OriginOn, SessionTurn};
 use std::sync::Wait;
+use std::time::Clock;
 
 impl<J: SessionGroup> SharedSession<J> {
     /// Begins a scan of this range. It is open until a batch answers that it is over, or it is left. If one
@@ -36,7 +37,11 @@ impl<J: SessionGroup> SharedSession<J> {
         if self.is_scanning() {
             return Err(Fault::SessionBusy);
         }
-        let SharedSession { seat, scan } = self;
+        let SharedSession {
+            seat,
+            scan,
+            patience: _,
+        } = self;
         let Some(mine) = seat.take() else {
             unreachable!()
         };
@@ -57,11 +62,13 @@ impl<J: SessionGroup> SharedSession<J> {
     /// Puts the next entries of the open scan behind those of `given`, as many as it has room for, and
     /// answers whether the scan is over, with all given. A page that another session holds is waited for.
     ///
-    /// Each refusal but these two ends the scan; what it gave before stands in `given`:
+    /// Each refusal but these ends the scan; what it gave before stands in `given`:
     ///
     /// - `NoSession` (12): no scan is open;
+    /// - `Blocked` (4): it was blocked for as long as the session's patience. It stays open, and the next
+    ///   batch goes on;
     /// - `BadLimits` (18): the scan has given 4,294,967,294 entries, which is the most. It stays open.
-    pub fn batch<S: PageStore, T: DeadRows + Drop, R: Wait>(
+    pub fn batch<S: PageStore, T: DeadRows + Drop, R: Wait + Clock>(
         &mut self,
         rt: &R,
         index: &SharedIndex<S, T, J>,
@@ -80,7 +87,11 @@ impl<J: SessionGroup> SharedSession<J> {
         let Some(count) = self.scan else {
             return Err(Fault::NoSession);
         };
-        let SharedSession { seat, scan } = self;
+        let SharedSession {
+            seat,
+            scan,
+            patience,
+        } = self;
         let Some(mine) = seat.take() else {
             unreachable!()
         };
@@ -88,14 +99,17 @@ impl<J: SessionGroup> SharedSession<J> {
             seat: mine,
             count,
             over,
-            blocked: _,
-        } = index.batch(rt, mine, count, given);
+            blocked,
+        } = index.batch(rt, mine, count, given, *patience);
         *seat = Some(mine);
         if let Some(answer) = over {
             *scan = None;
             return told_of_scan(answer);
         }
         *scan = Some(count);
+        if let Some(page) = blocked {
+            return Err(Fault::Blocked(page));
+        }
         if given.len() < given.capacity() {
             return Err(Fault::BadLimits);
         }
@@ -119,7 +133,11 @@ impl<J: SessionGroup> SharedSession<J> {
         let Some(count) = self.scan else {
             return Err(Fault::NoSession);
         };
-        let SharedSession { seat, scan } = self;
+        let SharedSession {
+            seat,
+            scan,
+            patience: _,
+        } = self;
         let Some(mine) = seat.take() else {
             unreachable!()
         };

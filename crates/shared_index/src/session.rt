@@ -6,9 +6,9 @@ ghost use Rattle.session_seats.specs.Seats.{view_of};
 ghost use Rattle.session_seats.specs.declared.job.Job.{Job as Asked};
 ghost use Rattle.shared_index.specs.Results.{told_of_insert, told_of_upkeep, told_of_vacuum};
 ghost use Rattle.shared_index.specs.Scanning.{SeatScans};
-ghost use Rattle.shared_index.specs.Sessions.{HasHadCall, HasTold, SeatRests, calls_had, number_of_seat, open_scan};
+ghost use Rattle.shared_index.specs.Sessions.{HasHadCall, HasTold, HasToldOrBlocked, IsNoScan, SeatRests, calls_had, number_of_seat, open_scan};
 
-use crate::index::SharedIndex;
+use crate::index::{CallEnd, SharedIndex};
 use crate::results::{told_of_insert, told_of_upkeep, told_of_vacuum};
 use index_model::{DeadRows, Entry, Fault, VacuumStats};
 use page_action::PageStore;
@@ -16,7 +16,7 @@ use session_calls::Answer;
 use session_seats::{SessionGroup, SessionSeat};
 use shared_world::{Job, OriginOn};
 use std::sync::Wait;
-use std::time::Clock;
+use std::time::{Clock, Duration};
 use whole_calls::Inserted;
 
 /// A session of a shared index. Who has it makes its calls, one at a time, and knows which it has had. While
@@ -26,6 +26,8 @@ pub struct SharedSession<J: SessionGroup> {
     pub(crate) seat: Option<SessionSeat<J>>,
     /// How many entries the scan that is open has given.
     pub(crate) scan: Option<u32>,
+    /// How long a call that is blocked waits for others; if this is none, without a limit.
+    pub(crate) patience: Option<Duration>,
     pub ghost there: { IsSome seat },
     pub ghost rests: { scan ≡ None → SeatRests seat },
     pub ghost scans: { ForSome scan (λ count. SeatScans count seat) },
@@ -39,6 +41,7 @@ pub fn seated<J: SessionGroup>(seat: SessionSeat<J>) -> SharedSession<J>
     SharedSession {
         seat: Some(seat),
         scan: None,
+        patience: None,
     }
 }
 
@@ -61,33 +64,53 @@ impl<J: SessionGroup> SharedSession<J> {
         self.scan.is_some()
     }
 
-    // A whole call: it begins, goes on until it is over, and answers.
-    fn call<S: PageStore, T: DeadRows + Drop, R: Wait>(
+    /// From now on a call that is blocked waits so long for others at most, from when it is blocked first;
+    /// if this is none, as long as it takes. At first it is none. A bulk delete or a cleanup waits so for
+    /// another one, too. Commits and checkpoints are never blocked.
+    pub fn set_patience(&mut self, patience: Option<Duration>)
+        ensures seat { self.new.seat ≡ self.old.seat }
+    {
+        self.patience = patience;
+    }
+
+    // A whole call: it begins, goes on until it is over or given up, and answers. If it was given up, there
+    // is the page by which it was blocked.
+    fn call<S: PageStore, T: DeadRows + Drop, R: Wait + Clock>(
         &mut self,
         rt: &R,
         index: &SharedIndex<S, T, J>,
         asked: Job,
-    ) -> Answer
+    ) -> (u32, Answer)
     where
         J: OriginOn<S>,
         requires rests { open_scan self.old.seat ≡ None }
+        requires writes { IsNoScan asked }
         ensures session { number_of_seat self.new.seat ≡ number_of_seat self.old.seat }
         ensures rests { open_scan self.new.seat ≡ None }
-        ensures told { HasHadCall asked result (calls_had self.old.seat) (calls_had self.new.seat) }
+        ensures told { HasHadCall asked result.1 (calls_had self.old.seat) (calls_had self.new.seat) }
     {
-        let SharedSession { seat, scan } = self;
+        let SharedSession {
+            seat,
+            scan,
+            patience,
+        } = self;
         *scan = None;
         let Some(mine) = seat.take() else {
             unreachable!()
         };
-        let (mine, answer) = index.call(rt, mine, asked);
+        let CallEnd {
+            seat: mine,
+            answer,
+            page,
+        } = index.call(rt, mine, asked, *patience);
         *seat = Some(mine);
-        answer
+        (page, answer)
     }
 
-    /// Inserts the entry, and answers by which action. A page that another session holds is waited for.
-    /// Refused as `access_method::Index::aminsert` is, but for `Blocked` (4): no entry is added then.
-    pub fn insert<S: PageStore, T: DeadRows + Drop, R: Wait>(
+    /// Inserts the entry, and answers by which action. A page that another session holds is waited for, as
+    /// long as the session's patience. Then it is given up, and refused with `Blocked` (4); but once the
+    /// entry is added, it waits as long as it takes. Else refused as `access_method::Index::aminsert` is.
+    pub fn insert<S: PageStore, T: DeadRows + Drop, R: Wait + Clock>(
         &mut self,
         rt: &R,
         index: &SharedIndex<S, T, J>,
@@ -98,20 +121,24 @@ impl<J: SessionGroup> SharedSession<J> {
         ensures session { number_of_seat self.new.seat ≡ number_of_seat self.old.seat }
         ensures busy { IsSome (open_scan self.old.seat)
             → (result ≡ Err Fault.SessionBusy) × (self.new ≡ self.old) }
-        ensures told { open_scan self.old.seat ≡ None → HasTold (Asked.Insert entry) told_of_insert result
+        ensures told { open_scan self.old.seat ≡ None
+            → HasToldOrBlocked (Asked.Insert entry) told_of_insert result
             (calls_had self.old.seat) (calls_had self.new.seat) }
         ensures scan { open_scan self.new.seat ≡ open_scan self.old.seat }
     {
         if self.is_scanning() {
             return Err(Fault::SessionBusy);
         }
-        told_of_insert(self.call(rt, index, Job::Insert(entry)))
+        let (page, answer) = self.call(rt, index, Job::Insert(entry));
+        told_of_insert(page, answer)
     }
 
     /// Deletes every entry whose row is in the set at this place among the world's sets, and answers
-    /// statistics. Inserts and scans of others go on beside it. Refused with `VacuumRunning` (11) if a bulk
-    /// delete or a cleanup runs, and with `NoSession` (12) if there is no such set.
-    pub fn bulk_delete<S: PageStore, T: DeadRows + Drop, R: Wait>(
+    /// statistics. Inserts and scans of others go on beside it. Another bulk delete or cleanup is waited
+    /// for, as long as the session's patience; then refused with `VacuumRunning` (11). Refused with
+    /// `NoSession` (12) if there is no such set. Refused with `Blocked` (4) if it was given up, blocked for
+    /// as long as the session's patience: what it has deleted stays deleted.
+    pub fn bulk_delete<S: PageStore, T: DeadRows + Drop, R: Wait + Clock>(
         &mut self,
         rt: &R,
         index: &SharedIndex<S, T, J>,
@@ -122,19 +149,23 @@ impl<J: SessionGroup> SharedSession<J> {
         ensures session { number_of_seat self.new.seat ≡ number_of_seat self.old.seat }
         ensures busy { IsSome (open_scan self.old.seat)
             → (result ≡ Err Fault.SessionBusy) × (self.new ≡ self.old) }
-        ensures told { open_scan self.old.seat ≡ None → HasTold (Asked.Bulk set) told_of_vacuum result
+        ensures told { open_scan self.old.seat ≡ None
+            → HasToldOrBlocked (Asked.Bulk set) told_of_vacuum result
             (calls_had self.old.seat) (calls_had self.new.seat) }
         ensures scan { open_scan self.new.seat ≡ open_scan self.old.seat }
     {
         if self.is_scanning() {
             return Err(Fault::SessionBusy);
         }
-        told_of_vacuum(self.call(rt, index, Job::Bulk(set)))
+        let (page, answer) = self.call(rt, index, Job::Bulk(set));
+        told_of_vacuum(page, answer)
     }
 
-    /// Deletes empty leaves, and answers statistics. Inserts and scans of others go on beside it. Refused
-    /// with `VacuumRunning` (11) if a bulk delete or a cleanup runs.
-    pub fn clean_up<S: PageStore, T: DeadRows + Drop, R: Wait>(
+    /// Deletes empty leaves, and answers statistics. Inserts and scans of others go on beside it. Another
+    /// bulk delete or cleanup is waited for, as long as the session's patience; then refused with
+    /// `VacuumRunning` (11). Refused with `Blocked` (4) if it was given up, blocked for as long as the
+    /// session's patience: what it has deleted stays deleted.
+    pub fn clean_up<S: PageStore, T: DeadRows + Drop, R: Wait + Clock>(
         &mut self,
         rt: &R,
         index: &SharedIndex<S, T, J>,
@@ -144,19 +175,21 @@ impl<J: SessionGroup> SharedSession<J> {
         ensures session { number_of_seat self.new.seat ≡ number_of_seat self.old.seat }
         ensures busy { IsSome (open_scan self.old.seat)
             → (result ≡ Err Fault.SessionBusy) × (self.new ≡ self.old) }
-        ensures told { open_scan self.old.seat ≡ None → HasTold Asked.Cleanup told_of_vacuum result
+        ensures told { open_scan self.old.seat ≡ None
+            → HasToldOrBlocked Asked.Cleanup told_of_vacuum result
             (calls_had self.old.seat) (calls_had self.new.seat) }
         ensures scan { open_scan self.new.seat ≡ open_scan self.old.seat }
     {
         if self.is_scanning() {
             return Err(Fault::SessionBusy);
         }
-        told_of_vacuum(self.call(rt, index, Job::Cleanup))
+        let (page, answer) = self.call(rt, index, Job::Cleanup);
+        told_of_vacuum(page, answer)
     }
 
-    /// Makes all actions durable, and answers how many there were. Waits before for those that committed with
-    /// it last, as long as that took, and after for those that commit with it: so commits share a force.
-    /// Refused with `Io` (2) and `Stopped` (3).
+    /// Makes all actions durable, and answers how many there were. Waits before for those that committed
+    /// with it last, as long as that took, and after for those that commit with it: so commits share a
+    /// force. Refused with `Io` (2) and `Stopped` (3).
     pub fn commit<S: PageStore, T: DeadRows + Drop, R: Wait + Clock>(
         &mut self,
         rt: &R,
@@ -175,14 +208,14 @@ impl<J: SessionGroup> SharedSession<J> {
             return Err(Fault::SessionBusy);
         }
         index.rounds.before(rt);
-        let answer = self.call(rt, index, Job::Commit);
+        let (_, answer) = self.call(rt, index, Job::Commit);
         index.rounds.after(rt);
         told_of_upkeep(answer)
     }
 
     /// Makes all actions durable, writes every changed page to its place, and answers how many actions there
     /// were. Refused with `Io` (2) and `Stopped` (3).
-    pub fn checkpoint<S: PageStore, T: DeadRows + Drop, R: Wait>(
+    pub fn checkpoint<S: PageStore, T: DeadRows + Drop, R: Wait + Clock>(
         &mut self,
         rt: &R,
         index: &SharedIndex<S, T, J>,
@@ -199,6 +232,7 @@ impl<J: SessionGroup> SharedSession<J> {
         if self.is_scanning() {
             return Err(Fault::SessionBusy);
         }
-        told_of_upkeep(self.call(rt, index, Job::Checkpoint))
+        let (_, answer) = self.call(rt, index, Job::Checkpoint);
+        told_of_upkeep(answer)
     }
 }

@@ -3,7 +3,7 @@ use Rattle.std.proofs.Common.{◌≡◌, ◌<◌, ◌≤◌, ◌&&◌, not, Bool
 use Rattle.index_model.specs.Order.{IsPast, last_or}
 use Rattle.index_model.specs.declared.range.Range.{Range}
 use Rattle.schedule.specs.Ready.{MayComeNext, ReadyMayComeNext}
-use Rattle.shared_world.proofs.Imports.{append-nil, Action, ThereAtSomeMoment, AskScan, Call, at_some_moment_later, Entry, SetGhosts, Ghosts, is_last, AnswersEnd, GivesLess, RunsUntilLast, is_busy, ready_count}
+use Rattle.shared_world.proofs.Imports.{append-nil, Action, ThereAtSomeMoment, AskScan, Call, at_some_moment_later, Entry, SetGhosts, Ghosts, is_last, AnswersEnd, GivesLess, RunsUntilLast, is_busy, ready_count, slot_add}
 use Rattle.shared_world.proofs.Imports.{has_call, slot_of, DeadSets, asked_by, Request, Answer, Gave, Ended, Op, OneCallRuns, Takes, GivesUp, StoreAndSlots, snapshot_of, Next, End, goes_does}
 use Rattle.shared_world.proofs.Imports.{get_within, inside, World, OriginGhosts, OriginOnGhosts, GroupGhosts, Live, Job, Scan, PendingCall, IsEventDone, MayBeLeft, given_after, given_more, gift_of, IsBelowRoom, IsWithinRoom, HasRoomLeft, request_of}
 use Rattle.shared_world.proofs.Imports.{WasLeft, completed_of}
@@ -12,7 +12,7 @@ use Rattle.shared_world.proofs.Handing.{IsMadeByEvent}
 use Rattle.shared_world.proofs.Noting.{some_same, busy_is, last_of, OthersRunOn, others_run_on, matches_runs, matches_ends}
 use Rattle.shared_world.proofs.Sharing.{pending_in, log_in, RunsAt, KeepsWith, CarriesOn}
 use Rattle.shared_world.proofs.Transiting.{makes_of, next_acts, end_acts}
-use Rattle.shared_world.proofs.Meanings.{MovesOnTo, moved, moved_on, moved_last}
+use Rattle.shared_world.proofs.Meanings.{MovesOnTo, added_in_slot, moved, moved_on, moved_last}
 
 not_last : (b a l : Bool) → a ≡ (b && not l) → a ≡ b → b ≡ true → l ≡ false
 not_last true a true until same busy = sym same ∙ until
@@ -33,13 +33,14 @@ ended_of : (slot : Option Op) (answer : Answer) → is_busy slot ≡ true → An
 ended_of None answer busy h = absurd cc
 ended_of (Some op) answer busy h = h
 
--- a scan that is left rightly: its room isn't full, or another match may come next
+-- a call that is left rightly: a scan, if its room isn't full, or another match may come next; any other,
+-- if it has no Add
 left_is : (start : Entry → Bool) (l more : List Action) (sets : DeadSets) (job : Job) (request : Request) (call : Call) (s : ℕ) (p : PendingCall)
-    (answer : Answer) (to ready : ℕ) → request_of job ≡ Some request → call.ask ≡ asked_by sets request
-    → call.began ≡ p.from → call.given ≡ p.given → MayBeLeft job p.given ready → length l ≤ to
-    → ((range : Range) → call.ask ≡ AskScan range → 0 < ready → MayComeNext start l range call.began (length l) call.given) → WasLeft start (l ++ more) job (completed_of s p answer to)
-left_is start l more sets (Scan range room) request call s p answer to ready asks ask began given (inl below) le next = inl below
-left_is start l more sets (Scan range room) request call s p answer to ready asks ask began given (inr some) le next =
+    (answer : Answer) (to ready : ℕ) (add added : Option ℕ) → added ≡ add → request_of job ≡ Some request → call.ask ≡ asked_by sets request
+    → call.began ≡ p.from → call.given ≡ p.given → MayBeLeft job p.given ready add → length l ≤ to
+    → ((range : Range) → call.ask ≡ AskScan range → 0 < ready → MayComeNext start l range call.began (length l) call.given) → WasLeft start (l ++ more) job (completed_of s p answer to) added
+left_is start l more sets (Scan range room) request call s p answer to ready add added same asks ask began given (inl below) le next = inl below
+left_is start l more sets (Scan range room) request call s p answer to ready add added same asks ask began given (inr some) le next =
     let m = next range (ask ∙ ap (asked_by sets) (sym (some_same asks))) some in
     inr (record {
       entry = m.entry;
@@ -47,7 +48,7 @@ left_is start l more sets (Scan range room) request call s p answer to ready ask
       was_there = at_some_moment_later start l more p.from (length l) to m.entry (omega arith) le (subst (λ (n : ℕ). ThereAtSomeMoment start l n (length l) m.entry) began m.was_there);
       beyond = subst (λ (es : List Entry). IsPast (last_or None es) m.entry) given m.beyond;
     })
-left_is start l more sets job request call s p answer to ready asks ask began given may le next = absurd may
+left_is start l more sets job request call s p answer to ready add added same asks ask began given may le next = same ∙ may
 
 -- what an answer gives stands after what was given
 pub given_as_more : (answer : Answer) (given : List Entry) → given_after answer given ≡ given ++ gift_of answer
@@ -106,7 +107,7 @@ module _ {S T J : Type 0} {g : Ghosts S} {rows : SetGhosts T} {past : OriginOnGh
       refl r.fits (λ h. (r.goes.crash h).keeps) refl refl refl (one_more_within p.asked p.given answer room)
 
   -- ... and after it was given up
-  end_keeps : ReadyMayComeNext g → (answer : Answer) → IsEventDone g (End s) answer w v → MayBeLeft p.asked p.given (ready_count (slot_of w.slots s)) → (to : ℕ) → to ≡ (g.state v.store).acts
+  end_keeps : ReadyMayComeNext g → (answer : Answer) → IsEventDone g (End s) answer w v → MayBeLeft p.asked p.given (ready_count (slot_of w.slots s)) (slot_add (slot_of w.slots s)) → (to : ℕ) → to ≡ (g.state v.store).acts
       → KeepsWith self w (pending_in self) (log_in self) → KeepsWith self v (slice_set (pending_in self) s None) (log_in self ++ completed_of s p answer to ∷ [])
   end_keeps law answer did may to to_is all honest contents acts calls so =
       let k = all (next.later.honest honest) contents acts calls so in
@@ -116,13 +117,14 @@ module _ {S T J : Type 0} {g : Ghosts S} {rows : SetGhosts T} {past : OriginOnGh
       let new = snapshot_of v r.then_history r.then_calls in
       let e = moved_last y.number y.call answer was new (ap is_last (end_answers g w v s here.has answer did))
       (moved g contents s GivesUp answer was new k.fit (goes_does r.goes) y.number y.call y.is) in
+      let add : e.to.after.added ≡ slot_add (slot_of w.slots s) = e.add_is (end_answers g w v s here.has answer did) ∙ added_in_slot g contents was s k.fit y.number y.call y.is in
       let ready = ready_count (slot_of w.slots s) in
       let until : to ≡ length new.history = to_is ∙ r.fits.explains.count in
       let long : length k.history ≤ to = (let x = ap (λ (l : List Action). length l) e.to.history_is in let z = length-append k.history e.to.more in omega (arith, until, x, z)) in
       keeps_ended g contents acts calls (j.kept_then contents acts calls) w v next.sets self.start (pending_in self) (log_in self) k next.later.durable s p one here.found answer to new e
       refl r.fits (λ h. (r.goes.crash h).keeps) until
-      (λ _. subst (λ (l : List Action). WasLeft contents l p.asked (completed_of s p answer to)) (sym e.to.history_is)
-      (left_is contents k.history e.to.more w.sets p.asked y.request y.call s p answer to ready y.asks y.ask_is y.began_is y.given_is may long
+      (λ _. subst (λ (l : List Action). WasLeft contents l p.asked (completed_of s p answer to) e.to.after.added) (sym e.to.history_is)
+      (left_is contents k.history e.to.more w.sets p.asked y.request y.call s p answer to ready (slot_add (slot_of w.slots s)) e.to.after.added add y.asks y.ask_is y.began_is y.given_is may long
       (λ range asks some. law contents was s y.number y.call range k.fit y.is asks some)))
 
   -- asking for the next entry
@@ -139,7 +141,7 @@ module _ {S T J : Type 0} {g : Ghosts S} {rows : SetGhosts T} {past : OriginOnGh
       }
 
   -- giving the call up
-  pub end_leaves : ReadyMayComeNext g → (answer : Answer) → IsEventDone g (End s) answer w v → MayBeLeft p.asked p.given (ready_count (slot_of w.slots s)) → (to : ℕ) → to ≡ (g.state v.store).acts
+  pub end_leaves : ReadyMayComeNext g → (answer : Answer) → IsEventDone g (End s) answer w v → MayBeLeft p.asked p.given (ready_count (slot_of w.slots s)) (slot_add (slot_of w.slots s)) → (to : ℕ) → to ≡ (g.state v.store).acts
       → CarriesOn self world (slice_set (pending_in self) s None) (log_in self ++ completed_of s p answer to ∷ [])
   end_leaves law answer did may to to_is =
       let runs = end_runs g w v s here.has answer did in

@@ -127,7 +127,7 @@ module _ {S : Type 0} (g : Ghosts S) (contents : Entry → Bool) (acts : List Ac
   -- a running call ends
   pub keeps_ended : OneCallRuns g → (at : slice_get pending s ≡ Some (Some p)) (answer : Answer) (to : ℕ) (new : Moment S) (e : EndsTo (k.runs s p at).number (k.runs s p at).call answer was new)
       → new ≡ snapshot_of v new.history new.calls → Fits g contents new → (KeepsHistory g contents was → KeepsHistory g contents new) → to ≡ length new.history
-      → (answer ≡ Ended → WasLeft contents new.history p.asked (completed_of s p answer to)) → Then (slice_set pending s None) (records ++ completed_of s p answer to ∷ [])
+      → (answer ≡ Ended → WasLeft contents new.history p.asked (completed_of s p answer to) e.to.after.added) → Then (slice_set pending s None) (records ++ completed_of s p answer to ∷ [])
   keeps_ended one at answer to new e here fit safe to_is left =
       let y = k.runs s p at in
       let z = k.since s p at in
@@ -158,7 +158,7 @@ module _ {S : Type 0} (g : Ghosts S) (contents : Entry → Bool) (acts : List Ac
           settled = e.settled;
         };
         most = y.most;
-        left = λ x. subst (λ (l : List Action). WasLeft contents l p.asked (completed_of s p answer to)) e.to.history_is (left x);
+        left = λ x. subst (λ (l : List Action). WasLeft contents l p.asked (completed_of s p answer to) e.to.after.added) e.to.history_is (left x);
       }))
       (record { seen_is = z.seen_is; from_is = omega (arith, z.from_is, long, length-append k.history e.to.more); to_is = omega (arith, long) })
       z.behind

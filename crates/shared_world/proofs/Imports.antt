@@ -15,7 +15,7 @@ pub use Rattle.index_model.specs.declared.fault.Fault.TheVariants.{Blocked, NoSe
 pub use Rattle.page_action.specs.States.{Backing, Continues, IsLater, State}
 pub use Rattle.page_action.specs.declared.page_store.PageStore.{Ghosts}
 pub use Rattle.session_calls.specs.Ops.{IsCaused, ends_call, is_last}
-pub use Rattle.session_calls.specs.Sessions.{AnswerMeans, AnswersEnd, AnswersStep, GivesLess, RunsUntilLast, act_count, is_busy, ready_count}
+pub use Rattle.session_calls.specs.Sessions.{AnswerMeans, AnswersEnd, AnswersStep, GivesLess, RunsUntilLast, act_count, is_busy, ready_count, slot_add}
 pub use Rattle.session_calls.specs.Slots.{has_call, one_vacuums, slot_has_call, slot_of}
 pub use Rattle.session_calls.specs.TheoremCalls.{DeadSets, acts_of, asked_by, begun_call}
 pub use Rattle.session_calls.specs.declared.answer.Answer.{Answer}
@@ -33,7 +33,7 @@ pub use Rattle.schedule.specs.TheoremMoments.{IsRunningCall, Moment, StoreAndSlo
 pub use Rattle.schedule.specs.TheoremRuns.{EventFollows, Fits, ForEachHistory}
 pub use Rattle.schedule.specs.declared.event.Event.{Event}
 pub use Rattle.schedule.specs.declared.event.Event.TheVariants.{Checkpoint, End, Next, Step}
-pub use Rattle.whole_calls.proofs.Tellings.{begins_told, keeps_silent, one_runs, runs_has_call}
+pub use Rattle.whole_calls.proofs.Tellings.{begins_told, keeps_silent, one_runs, runs_has_call, runs_in_slot}
 pub use Rattle.whole_calls.specs.OneStep.{HasStepped, IsGivenUpFor, IsMadeAsStep, OneStepAlways, OneStepIsRun, cut_short}
 pub use Rattle.world.specs.Worlds.{SameSessions, inside}
 pub use Rattle.world.specs.declared.world.World.{World}

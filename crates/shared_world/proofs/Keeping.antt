@@ -13,12 +13,12 @@ get_append [] ys n a h = inr (n, h)
 get_append (x ∷ xs) ys zero a h = inl h
 get_append (x ∷ xs) ys (suc n) a h = get_append xs ys n a h
 
--- a scan that was left rightly was so by a longer history too
-left_later : (start : Entry → Bool) (l m : List Action) (job : Job) (r : CompletedCall) → r.to ≤ length l → WasLeft start l job r → WasLeft start (l ++ m) job r
-left_later start l m (Scan range room) r le (inl h) = inl h
-left_later start l m (Scan range room) r le (inr h) =
+-- a call that was left rightly was so by a longer history too
+left_later : (start : Entry → Bool) (l m : List Action) (job : Job) (r : CompletedCall) (added : Option ℕ) → r.to ≤ length l → WasLeft start l job r added → WasLeft start (l ++ m) job r added
+left_later start l m (Scan range room) r added le (inl h) = inl h
+left_later start l m (Scan range room) r added le (inr h) =
     inr (record { entry = h.entry; matched = h.matched; was_there = at_some_moment_later start l m r.from r.to r.to h.entry le (omega arith) h.was_there; beyond = h.beyond })
-left_later start l m job r le h = absurd h
+left_later start l m job r added le h = h
 
 -- each of these actions is of the call of this number
 abbrev pub AllBy : ℕ → List Action → Type 0
@@ -149,7 +149,7 @@ module _ {S : Type 0} (g : Ghosts S) (contents : Entry → Bool) (acts : List Ac
           found = t.rest x.number x.call (λ e. t.free q (x.at_is ∙ ap (λ n. Some (Some n)) e)) x.found;
           is = rw sets_same x.is;
           most = x.most;
-          left = λ e. left_later contents k.history more r.asked r to (x.left e);
+          left = λ e. left_later contents k.history more r.asked r x.call.added to (x.left e);
         }))
         (λ (x : ListsUpkeep (g.backing w.store).durable k.at q r). inr (record {
           upkeep = x.upkeep;

@@ -1,10 +1,10 @@
 -- What an event tells of a running call, as far as a record tells it.
-use Rattle.std.proofs.Common.{◌≡◌, ℕ, zero, suc, ◌+◌, Bool, true, false, List, [], ◌++◌, length, Option, Some, None, slice_set, refl, sym, ap, ◌∙◌, subst, inl, inr, arith, length-append}
+use Rattle.std.proofs.Common.{◌≡◌, ℕ, zero, suc, ◌+◌, Bool, true, false, List, [], ◌++◌, length, Option, Some, None, slice_set, unwrap_or, refl, sym, ap, ◌∙◌, subst, inl, inr, arith, length-append}
 use Rattle.page_action.specs.Causes.{causes_of_forced}
-use Rattle.shared_world.proofs.Imports.{append-nil, Action, Effect, Call, Running, HasCause, Entry, Fault, Blocked, NoSession, Backing, Ghosts, ends_call, is_last, AnswerMeans, AnswersStep, act_count}
+use Rattle.shared_world.proofs.Imports.{append-nil, Action, Effect, Call, Running, HasCause, Entry, Fault, Blocked, NoSession, Backing, Ghosts, ends_call, is_last, AnswerMeans, AnswersStep, act_count, slot_add, slot_of}
 use Rattle.shared_world.proofs.Imports.{acts_of, Answer, Begun, Going, Added, Ready, Done, Finished, Gave, Ended, Forced, Flushed, Checkpointed, Refused, Op, Inserts, Scans, Bulks, Cleanups}
 use Rattle.shared_world.proofs.Imports.{CallMoves, MovesOn, EventDoes, Move, MovesCall, Moment, IsRunningCall, Fits, cut_short, HasStepped, IsGivenUpFor, ending_by, HasEndedBy, IsBlocked, one_runs}
-use Rattle.shared_world.proofs.Imports.{runs_has_call, given_after}
+use Rattle.shared_world.proofs.Imports.{runs_has_call, runs_in_slot, given_after}
 use Rattle.shared_world.proofs.Keeping.{AllBy}
 
 -- the call is the same except for its Add and its end, and has given this
@@ -110,6 +110,8 @@ pub record EndsTo {S : Type 0} (number : ℕ) (call : Call) (answer : Answer) (o
   pub ends : HasEndedBy answer to.after
   pub settled : IsBlocked answer → ⊥
   pub until_is : to.after.until ≡ length new.history
+  -- its Add stays, if it was given up
+  pub add_is : answer ≡ Ended → to.after.added ≡ call.added
 
 -- the running call of this number has moved with an action of this effect or none, and is told so
 pub record HasMoved {S : Type 0} (number : ℕ) (call : Call) (answer : Answer) (old new : Moment S) : Type 0 where
@@ -153,6 +155,11 @@ step_on number call answer old new of on h =
       runs = t.1;
     }
 
+-- the Add of a call stays, if it is given up
+added_still : (answer : Answer) (count : ℕ) (effect : Option Effect) (call after : Call) → answer ≡ Ended → AnswerMeans answer count effect call after → after.added ≡ call.added
+added_still Ended count effect call after is h = ap (λ (c : Call). c.added) h.after_is
+added_still answer count effect call after is h = absurd cc
+
 -- its last
 pub moved_last : {S : Type 0} (number : ℕ) (call : Call) (answer : Answer) (old new : Moment S) → is_last answer ≡ true → HasMoved number call answer old new → EndsTo number call answer old new
 moved_last number call answer old new last h =
@@ -165,6 +172,7 @@ moved_last number call answer old new last h =
       ends = inl t.1;
       settled = last_settled answer last;
       until_is = t.2 ∙ sym long;
+      add_is = λ is. added_still answer (length old.history) h.effect call h.after is h.told;
     }
   where
     ends_last : (a : Answer) → is_last a ≡ true → ending_by a ≡ Running → ⊥
@@ -174,6 +182,15 @@ moved_last number call answer old new last h =
     ends_last Ended l e = cc
     ends_last (Refused fault) l e = cc
     ends_last a l e = absurd cc
+
+-- the Add of a session's running call is that of its slot
+pub added_in_slot : {S : Type 0} (g : Ghosts S) (start : Entry → Bool) (now : Moment S) (session : ℕ) → Fits g start now → (number : ℕ) (call : Call) → IsRunningCall now.calls session number call
+    → call.added ≡ slot_add (slot_of now.slots session)
+added_in_slot g start now session fits number call is =
+    let r = runs_in_slot g start now fits session number call is in
+    let same : r.2.call ≡ call = (one_runs g start now fits session number r.2.number call r.2.call is r.2.is).1 in
+    let slot : slot_of now.slots session ≡ Some r.0 = ap (λ (o : Option (Option Op)). unwrap_or o None) r.1 in
+    ap (λ (c : Call). c.added) (sym same) ∙ r.2.runs.added ∙ sym (ap slot_add slot)
 
 -- a step that is
 pub step_last : {S : Type 0} (number : ℕ) (call : Call) (answer : Answer) (old new : Moment S) → is_last answer ≡ true → HasStepped number call answer old new → EndsTo number call answer old new
@@ -195,4 +212,5 @@ step_cut g number call answer old new h = record {
   ends = inr (record { fault = h.fault; told = h.answer_is; ending = refl });
   settled = last_settled answer (ap is_last h.answer_is ∙ short_ends (g.backing old.store) (g.backing new.store) call.added h.fault h.cause);
   until_is = ap (λ (l : List Action). length l) (sym h.history_is);
+  add_is = λ is. refl;
 }

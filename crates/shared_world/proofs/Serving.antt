@@ -215,10 +215,10 @@ module _ {S T J : Type 0} {g : Ghosts S} {rows : SetGhosts T} {j : JobGhosts J} 
         has_room below = subst HasRoomLeft (sym call_in_is) (room_left q found below)
 
         -- a scan whose room is full may be left if an entry more is ready
-        pub may_leave : {asked : Job} {ready : ℕ} → asked ≡ q.asked → IsFullScan asked (Some q) ready → {now : ℕ} → ready ≡ now → MayBeLeft (call_in (view_of seat.pass)).asked (call_in (view_of seat.pass)).given now
-        may_leave {asked} {ready} same full {now} is = subst (λ (x : PendingCall × ℕ). MayBeLeft x.0.asked x.0.given x.1) (λ i. (sym call_in_is i, is i)) (may q.asked (subst (λ (j : Job). IsFullScan j (Some q) ready) same full))
+        pub may_leave : {asked : Job} {ready : ℕ} → asked ≡ q.asked → IsFullScan asked (Some q) ready → {now : ℕ} (added : Option ℕ) → ready ≡ now → MayBeLeft (call_in (view_of seat.pass)).asked (call_in (view_of seat.pass)).given now added
+        may_leave {asked} {ready} same full {now} added is = subst (λ (x : PendingCall × ℕ). MayBeLeft x.0.asked x.0.given x.1 added) (λ i. (sym call_in_is i, is i)) (may q.asked (subst (λ (j : Job). IsFullScan j (Some q) ready) same full))
           where
-            may : (j : Job) → IsFullScan j (Some q) ready → MayBeLeft j q.given.items ready
+            may : (j : Job) → IsFullScan j (Some q) ready → MayBeLeft j q.given.items ready added
             may (Scan range room) h = inr h.1
             may j h = absurd h
 

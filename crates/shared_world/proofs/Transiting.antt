@@ -1,6 +1,6 @@
 -- The transitions of each event under the lock.
 use Rattle.std.proofs.Common.{◌≡◌, true, false, ℕ, suc, List, [], ◌∷◌, ◌++◌, length, Option, Some, None, slice_get, slice_set, refl, sym, ap, ◌∙◌, subst, inl, inr, arith, length-append}
-use Rattle.shared_world.proofs.Imports.{append-nil, Entry, Ghosts, is_last, is_busy, ready_count, has_call, slot_of, Answer, Gave, Ended, Checkpointed, Refused, EventAlways, EventEffect, kind_of}
+use Rattle.shared_world.proofs.Imports.{append-nil, Entry, Ghosts, is_last, is_busy, ready_count, slot_add, has_call, slot_of, Answer, Gave, Ended, Checkpointed, Refused, EventAlways, EventEffect, kind_of}
 use Rattle.shared_world.proofs.Imports.{StoreAndSlots, ForEachHistory, EventFollows, Event, Step, Next, End, Checkpoint, IsMadeAsStep, HasActed, IsEventDone, MayBeLeft, Handed}
 use Rattle.shared_world.proofs.Imports.{IsWithinRoom, completed_of, given_more, Transition, gift_of, CompletedCall, PendingCall}
 use Rattle.shared_world.proofs.Acting.{moment_of, acts_on, acts_ended}
@@ -91,8 +91,8 @@ module _ {S : Type 0} (g : Ghosts S) (handed : Handed) (w v : StoreAndSlots S) (
       acts_on g handed w v pending records a s p (given_more p answer) at (one_of (Next s) answer w v n ∷ []) (record { goes = (refl, on); room = tt; unrecorded = refl }, tt)
       (refl, makes_of g (Next s) answer w v sessions did.goes did.always, refl) refl refl refl most (ap (λ (l : List Entry). p.given ++ l) (sym (append-nil (gift_of answer))))
 
-  -- giving a scan up
-  pub end_acts : (answer : Answer) → EventEffect g (kind_of (End s)) answer w v → answer ≡ Ended → MayBeLeft p.asked p.given (ready_count (slot_of w.slots s)) → (to : ℕ) → to ≡ (g.state v.store).acts
+  -- giving a call up
+  pub end_acts : (answer : Answer) → EventEffect g (kind_of (End s)) answer w v → answer ≡ Ended → MayBeLeft p.asked p.given (ready_count (slot_of w.slots s)) (slot_add (slot_of w.slots s)) → (to : ℕ) → to ≡ (g.state v.store).acts
       → HasActed g handed w pending records → HasActed g handed v (slice_set pending s None) (records ++ completed_of s p answer to ∷ [])
   end_acts answer makes ended may to to_is a =
       let m = length (records ++ completed_of s p answer to ∷ []) in

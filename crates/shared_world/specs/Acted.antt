@@ -1,6 +1,6 @@
 -- What was done for each call that is over and for each that runs, whatever the pages are: events of its own,
 -- from the world as it was handed in.
-use Rattle.std.specs.Prelude.{◌≡◌, ◌⊎◌, ℕ, suc, ◌<◌, false, true, Option, Some, List, [], ◌∷◌, ◌++◌, length, slice_get}
+use Rattle.std.specs.Prelude.{◌≡◌, ◌⊎◌, ℕ, suc, ◌<◌, false, true, Option, Some, None, List, [], ◌∷◌, ◌++◌, length, slice_get}
 use Rattle.std.specs.List.{AllByRecursion}
 use Rattle.index_model.specs.declared.entry.Entry.{Entry}
 use Rattle.index_model.specs.declared.fault.Fault.{Fault}
@@ -80,18 +80,18 @@ pub record IsLastStep {S : Type 0} (g : Ghosts S) (place : ℕ) (r : CompletedCa
   pub room : HasRoomForStep g t
   pub makes : MakesRecord g place r.to t
 
--- a scan that has given these may be left, with so many entries ready: its room isn't full, or it has one
--- entry more ready
-abbrev pub MayBeLeft : Job → List Entry → ℕ → Type 0
-MayBeLeft (Scan range room) given ready = (length given < room) ⊎ (0 < ready)
-MayBeLeft job given ready = ⊥
+-- A call that has given these may be left, with so many entries ready and this Add. A scan: its room isn't
+-- full, or it has one entry more ready. Any other: it has no Add.
+abbrev pub MayBeLeft : Job → List Entry → ℕ → Option ℕ → Type 0
+MayBeLeft (Scan range room) given ready added = (length given < room) ⊎ (0 < ready)
+MayBeLeft job given ready added = added ≡ None
 
--- a scan is left by its session
+-- a call is left by its session
 pub record IsLeftOff {S : Type 0} (g : Ghosts S) (place : ℕ) (r : CompletedCall) (t : Transition S) : Type 0 where
   pub event_is : t.event ≡ End r.session
   pub answer_is : t.answer ≡ Ended
   pub told : r.answer ≡ Ended
-  pub may : MayBeLeft r.asked r.given (ready_count (slot_of t.before.here.slots r.session))
+  pub may : MayBeLeft r.asked r.given (ready_count (slot_of t.before.here.slots r.session)) (slot_add (slot_of t.before.here.slots r.session))
   pub makes : MakesRecord g place r.to t
 
 -- a checkpoint before a step is refused with a fault, and the call is given up for that

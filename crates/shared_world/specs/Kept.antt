@@ -64,14 +64,14 @@ pub record IsCallOf (ask : Ask) (r : CompletedCall) (call : Call) : Type 0 where
   -- one that is blocked goes on, and isn't in the log for it
   pub settled : IsBlocked r.answer → ⊥
 
--- A scan was left by its session rightly. If its room was full, there was one match more, beyond all that it
--- gave, at some moment of its interval.
-abbrev pub WasLeft : (Entry → Bool) → List Action → Job → CompletedCall → Type 0
-WasLeft start history (Scan range room) r = (length r.given < room) ⊎ MayComeNext start history range r.from r.to r.given
-WasLeft start history job r = ⊥
+-- A call with this Add was left by its session rightly. If the room of a scan was full, there was one match
+-- more, beyond all that it gave, at some moment of its interval. Any other call has no Add.
+abbrev pub WasLeft : (Entry → Bool) → List Action → Job → CompletedCall → Option ℕ → Type 0
+WasLeft start history (Scan range room) r added = (length r.given < room) ⊎ MayComeNext start history range r.from r.to r.given
+WasLeft start history job r added = added ≡ None
 
 -- The log lists a call at a place, which was asked what the log says. A scan gave no more than its room
--- holds. Its session left it rightly.
+-- holds. If its session left the call, it did so rightly.
 pub record ListsCall (start : Entry → Bool) (history : List Action) (sets : DeadSets) (calls : List Call) (at : List (Option ℕ)) (place : ℕ) (r : CompletedCall) : Type 0 where
   pub number : ℕ
   pub request : Request
@@ -81,7 +81,7 @@ pub record ListsCall (start : Entry → Bool) (history : List Action) (sets : De
   pub found : slice_get calls number ≡ Some call
   pub is : IsCallOf (asked_by sets request) r call
   pub most : IsWithinRoom r.asked r.given
-  pub left : r.answer ≡ Ended → WasLeft start history r.asked r
+  pub left : r.answer ≡ Ended → WasLeft start history r.asked r call.added
 
 -- it stands beside the calls: a commit or a checkpoint, which gives nothing, takes no action's time, answers
 -- what its kind may, and tells a number of actions only if so many were there and are durable

@@ -1,7 +1,7 @@
 //! A world under a lock, with sessions that come with calls one at a time: each event in one hold.
 
 ghost use Rattle.std.specs.Prelude.{◌≡◌, ◌≤◌, [], ℕ, true, false, not, length, None, Some, slice_get};
-ghost use Rattle.session_calls.specs.Sessions.{ready_count};
+ghost use Rattle.session_calls.specs.Sessions.{ready_count, slot_add};
 ghost use Rattle.session_calls.specs.Slots.{slot_of};
 ghost use Rattle.whole_calls.specs.Going.{CallIsRun};
 ghost use Rattle.whole_calls.specs.Made.{IsMadeOf};
@@ -226,12 +226,14 @@ impl<S: PageStore, T: DeadRows + Drop, J: OriginOn<S>> Live<S, T, J> {
         (seat, answer)
     }
 
-    /// Gives the session's scan up, before its end: it is over, with what it gave. If its room is full, it
-    /// must have an entry more ready (else a step tells whether it has).
+    /// Gives the session's call up, before its end: it is over, with what it did. If the room of a scan is
+    /// full, it must have an entry more ready (else a step tells whether it has). An insert must not have
+    /// added its entry.
     pub fn end(&mut self, seat: SessionSeat<J>) -> SessionSeat<J>
         requires runs { RunsItsCall (view_of seat.pass) }
         requires may { MayBeLeft (call_in (view_of seat.pass)).asked (call_in (view_of seat.pass)).given
-            (ready_count (slot_of self.old.world.calls.slots.items seat.session)) }
+            (ready_count (slot_of self.old.world.calls.slots.items seat.session))
+            (slot_add (slot_of self.old.world.calls.slots.items seat.session)) }
         ensures session { result.session ≡ seat.session }
         ensures start { self.new.start ≡ self.old.start }
         ensures event { IsEventDone S.PageStore (Event.End seat.session) Answer.Ended

@@ -56,7 +56,7 @@ impl<S: PageStore, T: DeadRows + Drop> World<S, T> {
     ghost use Rattle.schedule.specs.Events.{EventAlways, IsSameStore, OthersStay};
     ghost use Rattle.schedule.specs.Making.{EachAlways};
     ghost use Rattle.schedule.specs.TheoremRuns.{ForEachHistory, Runs};
-    ghost use Rattle.session_calls.specs.Sessions.{IsIdle, ready_count};
+    ghost use Rattle.session_calls.specs.Sessions.{IsIdle, ready_count, slot_add};
     ghost use Rattle.session_calls.specs.Slots.{has_call, slot_of};
     ghost use Rattle.schedule.specs.MomentInvariants.{IsUnused};
     ghost use Rattle.whole_calls.specs.Going.{CallIsRun};
@@ -296,6 +296,14 @@ impl<S: PageStore, T: DeadRows + Drop> World<S, T> {
         ensures { result ≡ ready_count (slot_of self.now.calls.slots.items session) }
     {
         self.calls.ready(session)
+    }
+
+    /// The number of the action that added the entry of the session's insert, if it runs one whose entry is
+    /// added.
+    pub fn added(&self, session: u32) -> Option<u64>
+        ensures { result ≡ slot_add (slot_of self.now.calls.slots.items session) }
+    {
+        self.calls.added(session)
     }
 
     /// Whether the session has a call. One that does not exist has none.

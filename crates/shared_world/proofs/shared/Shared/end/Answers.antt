@@ -1,5 +1,5 @@
 use Rattle.std.proofs.Common.{ℕ, Option, Some, slice_get, slice_set, refl, sym, ap, ◌∙◌, subst}
-use Rattle.shared_world.proofs.Imports.{End, Ended, ready_count, slot_of, inside, Pending, IsEventDone, IsFullScan, record_of}
+use Rattle.shared_world.proofs.Imports.{End, Ended, ready_count, slot_add, slot_of, inside, Pending, IsEventDone, IsFullScan, record_of}
 use Rattle.shared_world.proofs.Noting.{some_same}
 use Rattle.shared_world.proofs.Serving.{runs_at, read_here, taken_out, some_taken, turn_recorded, seat_noted, seat_there, session_is, call_in_is, runs_call, leaves_at, place_within, served_done, may_leave, full_room}
 use Rattle.shared_world.proofs.shared.Shared.end.Goals as goal
@@ -27,7 +27,7 @@ end-session-requires-clause-may g c =
     let full = subst (λ (x : Option Pending × ℕ). IsFullScan c.args.asked x.0 x.1) (λ i. (read_here self w at.1 c.index.result.now c.index.ensures i, c.ready-ready.ensures i))
     (c.is_full.ensures.yes c.if-is_full.true) in
     may_leave self w at.0 at.1.found c.take_seat.result c.take_seat.ensures.seat (some_same (sym c.requires.job ∙ ap (λ (n : ℕ). slice_get g.J.Jobs.jobs n) (sym at.1.job_is) ∙ self.booked.running w at.0 at.1.found)) full
-    (ap (λ (n : ℕ). ready_count (slot_of self.live.world.calls.slots.items n)) (sym (session_is self w (Some at.0) at.1.found c.take_seat.result c.take_seat.ensures.seat)))
+    (slot_add (slot_of self.live.world.calls.slots.items c.take_seat.result.session)) (ap (λ (n : ℕ). ready_count (slot_of self.live.world.calls.slots.items n)) (sym (session_is self w (Some at.0) at.1.found c.take_seat.result c.take_seat.ensures.seat)))
 
 pub put_seat-requires : goal.put_seat-requires
 put_seat-requires g c =
