@@ -50,7 +50,7 @@ keeps_none g contents old calls Kept now start pending log none k = record {
   once = k.once;
   runs = λ s p e. absurd (cc);
   since = λ s p e. absurd (cc);
-  behind = k.behind;
+  follows = k.follows;
   in_time = k.in_time;
 }
 
@@ -130,7 +130,7 @@ keeps_as g contents old calls A B now start pending log f k = record {
   once = k.once;
   runs = k.runs;
   since = k.since;
-  behind = k.behind;
+  follows = k.follows;
   in_time = k.in_time;
 }
 

@@ -9,7 +9,7 @@ use Rattle.shared_world.proofs.Owning.{same_test, other_test, all_both, all_so, 
 -- one path after the other
 pub path_append : {S : Type 0} (g : Ghosts S) (a : LockMoment S) (xs ys : List (Transition S)) (b c : LockMoment S) → IsPath g a xs b → IsPath g b ys c → IsPath g a (xs ++ ys) c
 path_append {S} g a [] ys b c one two = subst (λ (m : LockMoment S). IsPath g m ys c) one two
-path_append g a (x ∷ xs) ys b c one two = (one.0, one.1, path_append g x.behind xs ys b c one.2 two)
+path_append g a (x ∷ xs) ys b c one two = (one.0, one.1, path_append g x.after xs ys b c one.2 two)
 
 -- the moment of this world with so many records
 abbrev pub moment_of : {S : Type 0} → StoreAndSlots S → ℕ → LockMoment S
@@ -72,7 +72,7 @@ module _ {S : Type 0} (g : Ghosts S) (handed : Handed) (w v : StoreAndSlots S) (
   pub acts_begun : (s : ℕ) (p : PendingCall) → has_call w.slots s ≡ false → slice_get pending s ≡ Some None → p.from ≡ (g.state w.store).acts → p.seen ≡ n → p.given ≡ []
       → EventEffect g (kind_of (event_of s p.asked)) Begun w v → HasActed g handed v (slice_set pending s (Some p)) records
   acts_begun s p free idle from seen none makes =
-      let t : Transition S = record { event = event_of s p.asked; answer = Begun; before = moment_of w n; behind = moment_of v n } in
+      let t : Transition S = record { event = event_of s p.asked; answer = Begun; before = moment_of w n; after = moment_of v n } in
       let us : List (Transition S) = t ∷ [] in
       let mine : owned_by (OfSession s) (a.owners ++ owners_for (OfSession s) us) (a.transitions ++ us) ≡ us =
       owned_own (OfSession s) a.owners a.transitions us a.long ∙ ap (λ (l : List (Transition S)). l ++ us) (owned_nobody (OfSession s) a.owners a.transitions (none_idle s idle)) in
@@ -106,7 +106,7 @@ module _ {S : Type 0} (g : Ghosts S) (handed : Handed) (w v : StoreAndSlots S) (
       let r = completed_of s p answer p.from in
       let m = length (records ++ r ∷ []) in
       let longer = length-append records (r ∷ []) in
-      let t : Transition S = record { event = event_of s p.asked; answer = answer; before = moment_of w n; behind = moment_of v m } in
+      let t : Transition S = record { event = event_of s p.asked; answer = answer; before = moment_of w n; after = moment_of v m } in
       let us : List (Transition S) = t ∷ [] in
       let mine : owned_by (OfRecord n) (a.owners ++ owners_for (OfRecord n) us) (a.transitions ++ us) ≡ us =
       owned_own (OfRecord n) a.owners a.transitions us a.long ∙ ap (λ (l : List (Transition S)). l ++ us) (owned_nobody (OfRecord n) a.owners a.transitions none_next) in

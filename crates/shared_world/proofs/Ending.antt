@@ -122,7 +122,7 @@ keeps_nothing_pending g stood kept_then now start pending log none all honest co
       once = k.once;
       runs = λ s p h. absurd cc;
       since = λ s p h. absurd cc;
-      behind = k.behind;
+      follows = k.follows;
       in_time = k.in_time;
     }
 

@@ -50,7 +50,7 @@ module _ {S : Type 0} (g : Ghosts S) (contents : Entry → Bool) (acts : List Ac
       let since : IsSince records (length (k.history ++ [])) s p.seen p.from = record {
         seen_is = omega (arith, seen);
         from_is = omega (arith, from, length-append k.history []);
-        behind = subst (λ n. CallFollows records s n p.from) (sym seen) (follows_now g contents acts old KeptThen w v sets_same start pending records k s p.from from);
+        follows = subst (λ n. CallFollows records s n p.from) (sym seen) (follows_now g contents acts old KeptThen w v sets_same start pending records k s p.from from);
       } in
       keeps_on g contents acts old KeptThen w v sets_same start pending records k s (length k.calls) [] calls t (Some p)
       (λ l. inr (record { call = c; running = p; found = get_last k.calls c; runs = refl; waits = set_here pending s None (Some p) idle }))
@@ -111,7 +111,7 @@ module _ {S : Type 0} (g : Ghosts S) (contents : Entry → Bool) (acts : List Ac
       let since : IsSince records (length (k.history ++ e.to.more)) s q.seen q.from = record {
         seen_is = omega (arith, seen, z.seen_is);
         from_is = omega (arith, from, z.from_is, length-append k.history e.to.more);
-        behind = subst (λ (n : ℕ × ℕ). CallFollows records s n.0 n.1) (λ j. (sym seen j, sym from j)) z.behind;
+        follows = subst (λ (n : ℕ × ℕ). CallFollows records s n.0 n.1) (λ j. (sym seen j, sym from j)) z.follows;
       } in
       let session : after.session ≡ s = e.to.still.session_is ∙ y.is.session_is in
       keeps_on g contents acts old KeptThen w v sets_same start pending records k s i e.to.more calls t (Some q)
@@ -161,7 +161,7 @@ module _ {S : Type 0} (g : Ghosts S) (contents : Entry → Bool) (acts : List Ac
         left = λ x. subst (λ (l : List Action). WasLeft contents l p.asked (completed_of s p answer to) e.to.after.added) e.to.history_is (left x);
       }))
       (record { seen_is = z.seen_is; from_is = omega (arith, z.from_is, long, length-append k.history e.to.more); to_is = omega (arith, long) })
-      z.behind
+      z.follows
 
   -- a commit or a checkpoint, which stands beside the calls
   pub keeps_upkept : (upkeep : Upkeep) (answer : Answer) → slice_get pending s ≡ Some None

@@ -230,9 +230,9 @@ module _ {S : Type 0} (g : Ghosts S) (contents : Entry → Bool) (acts : List Ac
               (set_cases pending s u o (Some q) h);
           since = λ u q h. ⊎_elim
               (λ (x : (u ≡ s) × (o ≡ Some q)). subst (λ n. IsSince records (length (k.history ++ more)) n q.seen q.from) (sym x.0) (own q x.1).1)
-              (λ (x : (u ≢ s) × (slice_get pending u ≡ Some (Some q))). (let y = k.since u q x.1 in record { seen_is = y.seen_is; from_is = omega (arith, y.from_is, long); behind = y.behind }))
+              (λ (x : (u ≢ s) × (slice_get pending u ≡ Some (Some q))). (let y = k.since u q x.1 in record { seen_is = y.seen_is; from_is = omega (arith, y.from_is, long); follows = y.follows }))
               (set_cases pending s u o (Some q) h);
-          behind = k.behind;
+          follows = k.follows;
           in_time = λ q r h. (let y = k.in_time q r h in record { seen_is = y.seen_is; from_is = y.from_is; to_is = omega (arith, y.to_is, long) });
         }
 
@@ -283,15 +283,15 @@ module _ {S : Type 0} (g : Ghosts S) (contents : Entry → Bool) (acts : List Ac
               (λ (x : (u ≢ s) × (slice_get pending u ≡ Some (Some q))). (let y = k.since u q x.1 in record {
                 seen_is = omega (arith, y.seen_is, longer);
                 from_is = omega (arith, y.from_is, long);
-                behind = λ m z hm is. ⊎_elim
-                    (λ (b : (m < length records) × (slice_get records m ≡ Some z)). y.behind m z b.1 is)
+                follows = λ m z hm is. ⊎_elim
+                    (λ (b : (m < length records) × (slice_get records m ≡ Some z)). y.follows m z b.1 is)
                     (λ (b : (m ≡ length records) × (r ≡ z)). absurd (x.0 (sym is ∙ ap (λ (d : CompletedCall). d.session) (sym b.1) ∙ worker)))
                     (get_snoc records r z m hm);
               }))
               (set_cases pending s u o (Some q) h);
-          behind = λ p q u z less x y same. ⊎_elim
+          follows = λ p q u z less x y same. ⊎_elim
               (λ (m : (q < length records) × (slice_get records q ≡ Some z)).
-              k.behind p q u z less
+              k.follows p q u z less
               (⊎_elim (λ (b : (p < length records) × (slice_get records p ≡ Some u)). b.1)
               (λ (b : (p ≡ length records) × (r ≡ u)). absurd (omega (arith, less, m.0, b.0))) (get_snoc records r u p x)) m.1 same)
               (λ (m : (q ≡ length records) × (r ≡ z)). ⊎_elim
@@ -328,6 +328,6 @@ keeps_first g contents acts old KeptThen w start pending fit safe is none = reco
   once = λ p q i x y. absurd cc;
   runs = λ s p h. absurd (none s p h);
   since = λ s p h. absurd (none s p h);
-  behind = λ p q r t l h. absurd cc;
+  follows = λ p q r t l h. absurd cc;
   in_time = λ p r h. absurd cc;
 }

@@ -29,7 +29,7 @@ module _ {S : Type 0} (g : Ghosts S) (handed : Handed) (w v : StoreAndSlots S) (
   n = length records
 
   abbrev one_of : Event → Answer → StoreAndSlots S → StoreAndSlots S → ℕ → Transition S
-  one_of event answer x y m = record { event = event; answer = answer; before = moment_of x n; behind = moment_of y m }
+  one_of event answer x y m = record { event = event; answer = answer; before = moment_of x n; after = moment_of y m }
 
   -- a step that isn't the last
   pub step_acts_on : (answer : Answer) → IsMadeAsStep g s 5 answer w v → IsOfStep answer → is_last answer ≡ false → has_call v.slots s ≡ true

@@ -26,13 +26,13 @@ use Rattle.shared_world.specs.Transitions.{LockMoment, Transition, IsPath, Owner
 
 -- it ends no call
 abbrev pub IsUnrecorded : {S : Type 0} → Transition S → Type 0
-IsUnrecorded t = t.behind.recorded ≡ t.before.recorded
+IsUnrecorded t = t.after.recorded ≡ t.before.recorded
 
 -- the call at this place of the log is over after it; so many actions there are then
 pub record MakesRecord {S : Type 0} (g : Ghosts S) (place to : ℕ) (t : Transition S) : Type 0 where
   pub place_is : t.before.recorded ≡ place
-  pub next_is : t.behind.recorded ≡ suc place
-  pub to_is : (g.state t.behind.here.store).acts ≡ to
+  pub next_is : t.after.recorded ≡ suc place
+  pub to_is : (g.state t.after.here.store).acts ≡ to
 
 -- the event that begins the job, or does it whole, if its session runs nothing; so many calls were over and
 -- so many actions there were before
@@ -45,7 +45,7 @@ pub record IsBeginning {S : Type 0} (g : Ghosts S) (session : ℕ) (job : Job) (
 
 -- before a step the log has room for five images, or its whole room; a checkpoint is made only if it hasn't
 abbrev pub HasRoomForStep : {S : Type 0} → Ghosts S → Transition S → Type 0
-HasRoomForStep g t = HasItsRoom 5 (kind_of t.event) (g.state t.before.here.store).limits (g.backing t.before.here.store)
+HasRoomForStep g t = HasItsRoom 5 (kind_of t.event) (g.state t.before.here.store).format (g.backing t.before.here.store)
 
 -- an event that leaves a session's call running: a step, or asking for the next entry, whose answer isn't the
 -- last; or a checkpoint that is made before a step

@@ -22,7 +22,7 @@ pub record Handed : Type 0 where
 abbrev pub nothing_handed : Handed
 nothing_handed = record {
   state = record {
-    limits = record { layout = One; unique = false; items = 0; pages = 0; log_bytes = 0 };
+    format = record { layout = One; unique = false; items = 0; pages = 0; log_bytes = 0 };
     frames = 0;
     pages = [];
     counted = [];

@@ -130,7 +130,7 @@ CallFollows log session seen from = (place : ℕ) (r : CompletedCall) → slice_
 pub record IsSince (log : List CompletedCall) (count session seen from : ℕ) : Type 0 where
   pub seen_is : seen ≤ length log
   pub from_is : from ≤ count
-  pub behind : CallFollows log session seen from
+  pub follows : CallFollows log session seen from
 
 -- where a call that is over stands
 pub record IsInTime (count place : ℕ) (r : CompletedCall) : Type 0 where
@@ -164,7 +164,7 @@ pub record KeepsFitting {S : Type 0} (g : Ghosts S) (contents : Entry → Bool) 
   pub runs : (session : ℕ) (p : PendingCall) → slice_get pending session ≡ Some (Some p) → RunsCall now.sets (length old_calls) calls session p
   pub since : (session : ℕ) (p : PendingCall) → slice_get pending session ≡ Some (Some p) → IsSince log (length history) session p.seen p.from
   -- of one session's calls each lies after the one before
-  pub behind : (p q : ℕ) (r t : CompletedCall) → p < q → slice_get log p ≡ Some r → slice_get log q ≡ Some t → r.session ≡ t.session → (p < t.seen) × (r.to ≤ t.from)
+  pub follows : (p q : ℕ) (r t : CompletedCall) → p < q → slice_get log p ≡ Some r → slice_get log q ≡ Some t → r.session ≡ t.session → (p < t.seen) × (r.to ≤ t.from)
   pub in_time : (place : ℕ) (r : CompletedCall) → slice_get log place ≡ Some r → IsInTime (length history) place r
 
 -- as long as the device kept its model, of whatever fitted the world as it was handed in

@@ -19,13 +19,13 @@ pub record Transition (S : Type 0) : Type 0 where
   pub event : Event
   pub answer : Answer
   pub before : LockMoment S
-  pub behind : LockMoment S
+  pub after : LockMoment S
 
 -- they lead from one moment to another: each begins where the one before ended, and is what its event makes
 -- with its answer
 abbrev pub IsPath : {S : Type 0} → Ghosts S → LockMoment S → List (Transition S) → LockMoment S → Type 0
 IsPath g first [] last = last ≡ first
-IsPath g first (t ∷ ts) last = (t.before ≡ first) × EventEffect g (kind_of t.event) t.answer t.before.here t.behind.here × IsPath g t.behind ts last
+IsPath g first (t ∷ ts) last = (t.before ≡ first) × EventEffect g (kind_of t.event) t.answer t.before.here t.after.here × IsPath g t.after ts last
 
 -- whose a transition is: that of the call at this place of the log, or of the one that this session runs now
 pub data Owner : Type 0 where

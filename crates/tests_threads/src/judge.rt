@@ -144,7 +144,7 @@ struct Placed<'a> {
     record: &'a Record,
     earlier: &'a [Record],
     beside: &'a [Record],
-    behind: &'a [Record],
+    later: &'a [Record],
 }
 
 /// The record at a place; none if it says that it began after it.
@@ -158,7 +158,7 @@ fn record_at<'a>(history: &'a [Record], place: usize) -> Option<Placed<'a>> {
         record,
         earlier: &history[..seen],
         beside: &history[seen..place],
-        behind: &history[place + 1..],
+        later: &history[place + 1..],
     })
 }
 
@@ -262,7 +262,7 @@ fn has_cause(run: &Run<'_>, at: &Placed<'_>, job: &Job, fault: &Fault) -> bool {
         (Job::Insert(_), Fault::IndexFull) => run.is_full,
         (Job::Bulk(set), Fault::NoSession) => is_begin && *set >= SETS,
         (Job::Bulk(_) | Job::Cleanup, Fault::VacuumRunning) => {
-            is_begin && has_vacuum(run.jobs, at.behind, record.seen)
+            is_begin && has_vacuum(run.jobs, at.later, record.seen)
         }
         _ => false,
     }
