@@ -47,7 +47,7 @@ fn committed_inserts(alloc: Global, inserts: u16) -> Result<Vec<Job>, AllocError
 
 /// How a call fails.
 #[derive(Clone, Copy, Debug)]
-enum Failing {
+pub enum Failing {
     Once,
     /// With all after it.
     ForGood,
@@ -62,7 +62,7 @@ fn will_fail(world: &mut InMemory, how: Failing, n: u64) {
 }
 
 /// A new index, the nth call of whose device will fail.
-fn made_failing(alloc: Global, workers: u32, how: Failing, n: u64) -> Result<InMemory, Fail> {
+pub fn made_failing(alloc: Global, workers: u32, how: Failing, n: u64) -> Result<InMemory, Fail> {
     let mut world = made(alloc, &LIMITS, workers)?;
     will_fail(&mut world, how, n);
     Ok(world)
@@ -70,13 +70,13 @@ fn made_failing(alloc: Global, workers: u32, how: Failing, n: u64) -> Result<InM
 
 /// What is counted of the runs.
 #[derive(Clone, Copy, Debug, Default)]
-struct Counted {
+pub struct Counted {
     /// Runs in which a call failed.
-    failed: u32,
+    pub failed: u32,
     /// Images of a crash that were opened.
-    opened: u32,
+    pub opened: u32,
     /// Those of them that lack an entry.
-    losing: u32,
+    pub losing: u32,
 }
 
 /// The number of the last action that a commit or a checkpoint acknowledged.
@@ -107,7 +107,7 @@ fn has_prefix<S: PageStore>(
 
 /// Opens what a crash left: its entries are those that some prefix of the actions added, which holds the
 /// durable ones, and the verifier finds no damage.
-fn opens_right(
+pub fn opens_right(
     rt: &(impl Abort + AllocGlobal + Print + Eprint + Threads + Wait + Sync),
     found: MemDevice,
     added: &[Option<Addition>],

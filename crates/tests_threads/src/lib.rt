@@ -23,3 +23,9 @@ mod plain;
 mod runs;
 #[cfg(test)]
 mod shared;
+#[cfg(test)]
+mod shared_failing;
+#[cfg(test)]
+mod shared_mixed;
+#[cfg(test)]
+mod shared_waits;

@@ -1,0 +1,309 @@
+//! Sessions of threads that share an index, and wait for each other: with patience, and without a limit.
+
+ghost use Rattle.std.specs.Prelude.{◌≡◌};
+ghost use Rattle.shared_index.specs.Sessions.{number_of_seat};
+
+use crate::indexes::{InMemory, all_entries, made};
+use crate::lists::entry;
+use crate::plain::{ALL, abandon};
+use index_model::{DeadRows, Entry, Fault, Limits};
+use page_action::PageStore;
+use session_calls::Answer;
+use shared_index::{Client, SharedIndex, SharedSession, serve};
+use shared_world::OriginOn;
+use std::process::Abort;
+use std::sync::{Condvar, CondvarTimeouts, Mutex, Wait};
+use std::test::{Fail, *};
+use std::thread::Threads;
+use std::time::{Clock, Duration, Instant};
+
+/// All entries are in one leaf, which is block 1.
+const LIMITS: Limits = Limits {
+    items: 50,
+    pages: 64,
+    log_bytes: 65_536,
+    unique: false,
+};
+
+/// The patience of those that have some.
+fn patience() -> Duration {
+    Duration::from_millis(20)
+}
+
+/// How far the threads are.
+#[derive(Drop)]
+struct Stage {
+    at: u32,
+}
+
+/// Threads of which the first rests in the middle of a scan, the next deletes beside it, and the third
+/// cleans up beside that.
+#[derive(Drop)]
+struct Waiters<'a, R: Wait> {
+    rt: &'a R,
+    stage: Mutex<Stage>,
+    moved: Condvar,
+}
+
+impl<'a, R: Wait + Clock + AllocGlobal> Waiters<'a, R> {
+    /// From now on threads are at this stage.
+    fn reach(&self, at: u32) {
+        {
+            let mut stage = self.stage.lock(self.rt);
+            stage.at = at;
+        }
+        self.moved.notify_all();
+    }
+
+    /// Waits for this stage; `Stopped` if it isn't reached in 20 seconds.
+    fn wait_for(&self, at: u32) -> Result<(), Fault> {
+        let stage = self.stage.lock(self.rt);
+        let limit = Duration::from_secs(20);
+        let (_stage, timed) = self
+            .moved
+            .wait_timeout_while(self.rt, stage, limit, |stage| stage.at < at);
+        if timed.timed_out() {
+            return Err(Fault::Stopped);
+        }
+        Ok(())
+    }
+
+    /// Whether it is longer ago than the patience.
+    fn has_waited(&self, since: Instant) -> bool {
+        match since.elapsed(self.rt) {
+            Ok(waited) => waited >= patience(),
+            Err(_) => false,
+        }
+    }
+
+    fn now(&self) -> Result<Instant, Fault> {
+        match Instant::now(self.rt) {
+            Ok(now) => Ok(now),
+            Err(_) => Err(Fault::Io),
+        }
+    }
+
+    /// Inserts three entries, of which the set has two, and scans them: one, then the others after the third
+    /// stage.
+    fn read<S: PageStore, T: DeadRows + Drop, J: OriginOn<S>>(
+        &self,
+        index: &SharedIndex<S, T, J>,
+        session: &mut SharedSession<J>,
+    ) -> Result<bool, Fault>
+        ensures { number_of_seat session.new.seat ≡ number_of_seat session.old.seat }
+    {
+        for number in 0..3_u16 {
+            let block = if number == 1 { 9 } else { 1 };
+            session.insert(self.rt, index, entry(number, block))?;
+        }
+        session.scan(self.rt, index, ALL)?;
+        let Ok(mut first) = Vec::with_capacity(self.rt.alloc(), 1) else {
+            return Err(Fault::NoMemory);
+        };
+        let Ok(mut rest) = Vec::with_capacity(self.rt.alloc(), 10) else {
+            return Err(Fault::NoMemory);
+        };
+        let is_over = session.batch(self.rt, index, &mut first)?;
+        self.reach(1);
+        let waited = self.wait_for(3);
+        let is_over_then = session.batch(self.rt, index, &mut rest)?;
+        waited?;
+        Ok(
+            !is_over
+                && is_over_then
+                && first.as_slice() == [entry(0, 1)].as_slice()
+                && rest.as_slice() == [entry(1, 9), entry(2, 1)].as_slice(),
+        )
+    }
+
+    /// A bulk delete with this patience, in the middle of the scan: whether it was blocked.
+    fn is_blocked<S: PageStore, T: DeadRows + Drop, J: OriginOn<S>>(
+        &self,
+        index: &SharedIndex<S, T, J>,
+        session: &mut SharedSession<J>,
+        patience: Duration,
+    ) -> bool
+        ensures { number_of_seat session.new.seat ≡ number_of_seat session.old.seat }
+    {
+        session.set_patience(Some(patience));
+        matches!(
+            session.bulk_delete(self.rt, index, 0),
+            Err(Fault::Blocked(1))
+        )
+    }
+
+    /// Deletes by the set beside the scan: it is blocked at once, then after a while, and at last it waits
+    /// until the scan has gone on.
+    fn delete<S: PageStore, T: DeadRows + Drop, J: OriginOn<S>>(
+        &self,
+        index: &SharedIndex<S, T, J>,
+        session: &mut SharedSession<J>,
+    ) -> Result<bool, Fault>
+        ensures { number_of_seat session.new.seat ≡ number_of_seat session.old.seat }
+    {
+        self.wait_for(1)?;
+        let is_blocked = self.is_blocked(index, session, Duration::ZERO);
+        let since = self.now()?;
+        let is_blocked_later = self.is_blocked(index, session, patience());
+        let has_waited = self.has_waited(since);
+        self.reach(2);
+        session.set_patience(None);
+        let removed = session.bulk_delete(self.rt, index, 0)?.tuples_removed;
+        Ok(is_blocked && is_blocked_later && has_waited && removed == 2)
+    }
+
+    /// Whether a cleanup is refused since the bulk delete runs. It may be sooner than that.
+    fn is_excluded<S: PageStore, T: DeadRows + Drop, J: OriginOn<S>>(
+        &self,
+        index: &SharedIndex<S, T, J>,
+        session: &mut SharedSession<J>,
+    ) -> bool
+        ensures { number_of_seat session.new.seat ≡ number_of_seat session.old.seat }
+    {
+        session.set_patience(Some(Duration::ZERO));
+        for _ in 0..10_000_000_u32 {
+            let cleaned = session.clean_up(self.rt, index);
+            if matches!(cleaned, Err(Fault::VacuumRunning)) {
+                return true;
+            }
+        }
+        false
+    }
+
+    /// Cleans up beside the bulk delete: it is refused at once, then after a while, and at last it waits
+    /// until that is over.
+    fn clean_up<S: PageStore, T: DeadRows + Drop, J: OriginOn<S>>(
+        &self,
+        index: &SharedIndex<S, T, J>,
+        session: &mut SharedSession<J>,
+    ) -> Result<bool, Fault>
+        ensures { number_of_seat session.new.seat ≡ number_of_seat session.old.seat }
+    {
+        self.wait_for(2)?;
+        let is_excluded = self.is_excluded(index, session);
+        let since = self.now()?;
+        session.set_patience(Some(patience()));
+        let cleaned = session.clean_up(self.rt, index);
+        let is_excluded_later = matches!(cleaned, Err(Fault::VacuumRunning));
+        let has_waited = self.has_waited(since);
+        self.reach(3);
+        session.set_patience(None);
+        let _stats = session.clean_up(self.rt, index)?;
+        Ok(is_excluded && is_excluded_later && has_waited)
+    }
+}
+
+impl<'a, S: PageStore, T: DeadRows + Drop, R: Wait + Clock + AllocGlobal> Client<S, T>
+    for Waiters<'a, R> {
+    type Out = Result<bool, Fault>;
+
+    ghost learnt = { λ out calls. Unit {0} };
+
+    fn work<J: OriginOn<S>>(
+        &self,
+        index: &SharedIndex<S, T, J>,
+        session: &mut SharedSession<J>,
+        number: u32,
+    ) -> Result<bool, Fault> {
+        match number {
+            0 => self.read(index, session),
+            1 => self.delete(index, session),
+            _ => self.clean_up(index, session),
+        }
+    }
+}
+
+/// A bulk delete whose patience is at its end is told as blocked, and nothing is deleted. One that waits as
+/// long as it takes goes on when the scan does. Another one waits for it in the same way.
+#[test]
+fn calls_wait_with_patience(rt: HostRuntime) -> Result<(), Fail> {
+    let world = made(rt.alloc(), &LIMITS, 3)?;
+    let waiters = Waiters {
+        rt: &rt,
+        stage: Mutex::new(Stage { at: 0 }),
+        moved: Condvar::new(),
+    };
+    let served = match serve(&rt, rt.alloc(), world, 3, &waiters) {
+        Ok(served) => served,
+        Err(not_served) => return Err(Fail::from(not_served.fault)),
+    };
+    assert!(rt; served.idle);
+    assert_eq!(rt; served.outs.len(), 3);
+    for out in served.outs {
+        assert!(rt; out?);
+    }
+    let mut world: InMemory = served.world;
+    let entries = all_entries(rt.alloc(), &mut world)?;
+    assert!(rt; entries.as_slice() == [entry(1, 9)].as_slice());
+    Ok(())
+}
+
+/// Threads of which the first leaves its scan open.
+#[derive(Drop)]
+struct Loser<'a, R: Wait> {
+    rt: &'a R,
+}
+
+impl<'a, R: Wait + Clock + AllocGlobal> Loser<'a, R> {
+    fn given<S: PageStore, T: DeadRows + Drop, J: OriginOn<S>>(
+        &self,
+        index: &SharedIndex<S, T, J>,
+        session: &mut SharedSession<J>,
+        number: u32,
+    ) -> Result<usize, Fault>
+        ensures { number_of_seat session.new.seat ≡ number_of_seat session.old.seat }
+    {
+        let first = (number as u16).wrapping_mul(60);
+        for place in 0..60_u16 {
+            session.insert(self.rt, index, entry(first.wrapping_add(place), 9))?;
+        }
+        if number > 0 {
+            return Ok(0);
+        }
+        session.scan(self.rt, index, ALL)?;
+        let Ok(mut batch) = Vec::with_capacity(self.rt.alloc(), 5) else {
+            return Err(Fault::NoMemory);
+        };
+        let _is_over = session.batch(self.rt, index, &mut batch)?;
+        Ok(batch.len())
+    }
+}
+
+impl<'a, S: PageStore, T: DeadRows + Drop, R: Wait + Clock + AllocGlobal> Client<S, T>
+    for Loser<'a, R> {
+    type Out = Result<usize, Fault>;
+
+    ghost learnt = { λ out calls. Unit {0} };
+
+    fn work<J: OriginOn<S>>(
+        &self,
+        index: &SharedIndex<S, T, J>,
+        session: &mut SharedSession<J>,
+        number: u32,
+    ) -> Result<usize, Fault> {
+        self.given(index, session, number)
+    }
+}
+
+/// A session whose scan is open at the end: the world has it, until it is given up, and all that was
+/// inserted.
+#[test]
+fn lost_scan_is_in_the_world(rt: HostRuntime) -> Result<(), Fail> {
+    let world = made(rt.alloc(), &LIMITS, 3)?;
+    let served = match serve(&rt, rt.alloc(), world, 3, &Loser { rt: &rt }) {
+        Ok(served) => served,
+        Err(not_served) => return Err(Fail::from(not_served.fault)),
+    };
+    assert!(rt; !served.idle);
+    let mut given: usize = 0;
+    for out in served.outs {
+        given = out?.saturating_add(given);
+    }
+    assert_eq!(rt; given, 5);
+    let mut world: InMemory = served.world;
+    assert!(rt; world.is_running(0) && !world.is_running(1) && !world.is_running(2));
+    assert!(rt; matches!(abandon(&mut world, 0), Answer::Ended));
+    assert!(rt; !world.is_running(0));
+    assert_eq!(rt; all_entries(rt.alloc(), &mut world)?.len(), 180);
+    Ok(())
+}
