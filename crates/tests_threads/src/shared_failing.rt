@@ -39,13 +39,14 @@ struct Told {
 
 /// The number of the key that a thread inserts at this place.
 fn key_of(number: u32, place: usize) -> u16 {
-    let first = (number as u16).wrapping_mul(EACH as u16);
-    first.wrapping_add(place as u16)
+    let each = u16::try_from(EACH).unwrap_or(0);
+    let first = u16::try_from(number).unwrap_or(0).wrapping_mul(each);
+    first.wrapping_add(u16::try_from(place).unwrap_or(0))
 }
 
 /// The number of the key that it inserts after a refusal.
 fn last_key(number: u32) -> u16 {
-    (number as u16).wrapping_add(40)
+    u16::try_from(number).unwrap_or(0).wrapping_add(40)
 }
 
 /// A refusal of a call of a device that has stopped.

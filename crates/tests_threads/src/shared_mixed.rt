@@ -236,15 +236,15 @@ impl<'a, R: Wait + Clock + AllocGlobal> Mixers<'a, R> {
         &self,
         index: &SharedIndex<S, T, J>,
         session: &mut SharedSession<J>,
-        set: usize,
+        set: u32,
         told: &mut Told,
     ) -> Result<(), Fault>
         ensures { number_of_seat session.new.seat ≡ number_of_seat session.old.seat }
     {
-        match session.bulk_delete(self.rt, index, set as u32) {
+        match session.bulk_delete(self.rt, index, set) {
             Ok(stats) => {
                 told.removed = told.removed.saturating_add(stats.tuples_removed);
-                if let Some(deleted) = told.deleted.get_mut(set) {
+                if let Some(deleted) = told.deleted.get_mut(set as usize) {
                     *deleted = told.inserted;
                 }
                 Ok(())
@@ -295,7 +295,7 @@ impl<'a, R: Wait + Clock + AllocGlobal> Mixers<'a, R> {
             }
             6 => {
                 session.set_patience(None);
-                self.delete(index, session, usize::from(number % 2), told)
+                self.delete(index, session, u32::from(number % 2), told)
             }
             7 => {
                 session.set_patience(Some(patience));
@@ -354,7 +354,7 @@ impl<'a, S: PageStore, T: DeadRows + Drop, R: Wait + Clock + AllocGlobal> Client
         session: &mut SharedSession<J>,
         number: u32,
     ) -> Result<Told, Fault> {
-        self.told(index, session, number as u16)
+        self.told(index, session, u16::try_from(number).unwrap_or(0))
     }
 }
 

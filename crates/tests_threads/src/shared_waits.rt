@@ -253,7 +253,7 @@ impl<'a, R: Wait + Clock + AllocGlobal> Loser<'a, R> {
     ) -> Result<usize, Fault>
         ensures { number_of_seat session.new.seat ≡ number_of_seat session.old.seat }
     {
-        let first = (number as u16).wrapping_mul(60);
+        let first = u16::try_from(number).unwrap_or(0).wrapping_mul(60);
         for place in 0..60_u16 {
             session.insert(self.rt, index, entry(first.wrapping_add(place), 9))?;
         }
