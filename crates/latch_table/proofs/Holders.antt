@@ -7,7 +7,7 @@ use Rattle.std.proofs.Math.Bool.{and-false}
 use Rattle.latch_table.specs.declared.mode.Mode.{Mode}
 use Rattle.latch_table.specs.declared.mode.Mode.TheVariants.{Shared, Exclusive, Cleanup}
 use Rattle.latch_table.specs.declared.mode.Latch.{Latch}
-use Rattle.latch_table.specs.Holdings.{Holding, Table, nothing_held, holding_of, with_holding, latches_exclude, pins_exclude, holding_excludes, others_exclude, is_held_by_another}
+use Rattle.latch_table.specs.Holdings.{Holding, Table, nothing_held, holding_of, with_holding, latches_exclude, pins_exclude, holding_excludes, others_exclude, is_held_by_another, pinned_blocks}
 use Rattle.latch_table.specs.Holders.{holds_any, one_if, holder_count}
 
 low : (b : Bool) → one_if b ≤ 1
@@ -49,6 +49,11 @@ no_pin : (pins : List ℕ) → one_if (holds_any (record { latches = []; pins = 
 no_pin [] none = refl
 no_pin (pin ∷ pins) none = (let one : 1 ≡ 0 = rw (long pin pins) at none in absurd (omega (arith, one)))
 
+-- what holds nothing pins nothing
+pinless_holding : (holding : Holding) → one_if (holds_any holding) ≡ 0 → holding.pins ≡ []
+pinless_holding holding none =
+    no_pin holding.pins (subst (λ (ls : List Latch). one_if (holds_any (record { latches = ls; pins = holding.pins })) ≡ 0) (no_latch holding.latches holding.pins none) none)
+
 pinless : (block : ℕ) (asked : Mode) → pins_exclude [] block asked ≡ false
 pinless block Shared = refl
 pinless block Exclusive = refl
@@ -57,7 +62,7 @@ pinless block Cleanup = refl
 excludes_nothing : (holding : Holding) (block : ℕ) (asked : Mode) → one_if (holds_any holding) ≡ 0 → holding_excludes holding block asked ≡ false
 excludes_nothing holding block asked none =
     let latches : holding.latches ≡ [] = no_latch holding.latches holding.pins none in
-    let pins : holding.pins ≡ [] = no_pin holding.pins (subst (λ (ls : List Latch). one_if (holds_any (record { latches = ls; pins = holding.pins })) ≡ 0) latches none) in
+    let pins = pinless_holding holding none in
     ap (λ (ls : List Latch). latches_exclude ls block asked || pins_exclude holding.pins block asked) latches
     ∙ ap (λ (ps : List ℕ). pins_exclude ps block asked) pins ∙ pinless block asked
 
@@ -65,6 +70,11 @@ none_exclude : (from : ℕ) (table : Table) (session block : ℕ) (asked : Mode)
 none_exclude from [] session block asked none = refl
 none_exclude from (holding ∷ table) session block asked none =
     rw (excludes_nothing holding block asked (omega (arith, none)), and-false (not (from == session))) (none_exclude (suc from) table session block asked (omega (arith, none)))
+
+-- if none holds anything, no block is pinned
+pub none_pinned : (table : Table) → holder_count table ≡ 0 → pinned_blocks table ≡ []
+none_pinned [] none = refl
+none_pinned (holding ∷ table) none = rw (pinless_holding holding (omega (arith, none))) (none_pinned table (omega (arith, none)))
 
 own_alone : (from : ℕ) (table : Table) (place session block : ℕ) (asked : Mode) → place < length table → session ≡ from + place
     → holder_count table ≡ one_if (holds_any (holding_of table place)) → others_exclude from table session block asked ≡ false

@@ -161,8 +161,14 @@ impl LatchTable {
         ensures { result.items ≡ pinned_blocks self.now }
     {
         let mut blocks = ArrayVec::new();
+        // How many of the rest hold something.
+        let mut left = self.holders;
         for held in &self.holdings {
+            if left == 0 {
+                return blocks;
+            }
             held.add_pins(&mut blocks);
+            left -= count(held.holds_any());
         }
         blocks
     }

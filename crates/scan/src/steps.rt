@@ -15,7 +15,7 @@ use descent::{NextPage, Position, lead, read_shared, way_down};
 use index_model::{Bound, Entry, Fault, Range, Session};
 use page_action::PageStore;
 use page_codec::{Items, Page};
-use tree_shape::{SearchKey, matches_beyond};
+use tree_shape::{SearchKey, take_matches};
 
 /// Where a scan is between its steps.
 #[derive(Clone, Copy)]
@@ -207,7 +207,7 @@ impl ScanOp {
         ensures op { self.new
             ≡ after_reading self.old page.now.high page.now.right self.new.copied.items }
     {
-        self.copied = matches_beyond(entries, &self.frontier, &self.range.below);
+        take_matches(entries, &self.frontier, &self.range.below, &mut self.copied);
         self.given = 0;
         self.at = after_leaf(page, &self.range.below);
         self.frontier = frontier_past(self.frontier, &page.high);

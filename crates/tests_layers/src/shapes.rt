@@ -1,10 +1,11 @@
 //! Entries on a leaf.
 
 use crate::trees::{entry, marked};
+use arrayvec::ArrayVec;
 use index_model::{Entry, Key};
 use page_codec::{Items, Page};
 use std::test::*;
-use tree_shape::{find, matches_beyond, may_hold, put};
+use tree_shape::{find, may_hold, put, take_matches};
 
 #[test]
 fn places_on_a_leaf(rt: HostRuntime) {
@@ -63,8 +64,11 @@ fn matches_of_a_leaf(rt: HostRuntime) {
     ];
     let frontier = entry(1, 8, 1).bound();
     let below = Key::new(&[4]).ok();
-    let between = matches_beyond(&entries, &frontier, &below);
+    let mut between = ArrayVec::new();
+    take_matches(&entries, &frontier, &below, &mut between);
     assert!(rt; between.as_slice() == [entry(3, 5, 1), entry(3, 7, 1)].as_slice());
-    let open = matches_beyond(&entries, &frontier, &None);
-    assert!(rt; open.len() == 3);
+    take_matches(&entries, &frontier, &None, &mut between);
+    assert!(rt; between.len() == 3);
+    take_matches(&entries, &frontier, &Key::new(&[1]).ok(), &mut between);
+    assert!(rt; between.is_empty());
 }

@@ -165,26 +165,32 @@ fn tail(entries: &[Entry], at: usize) -> &[Entry]
     &entries[at..]
 }
 
-fn copy_of(entries: &[Entry]) -> ArrayVec<Entry, 50>
+// Makes the list a copy of these entries, in the place where it is.
+fn copy_over(entries: &[Entry], into: &mut ArrayVec<Entry, 50>)
     requires { length entries.now ≤ 50 }
-    ensures { result.items ≡ entries.now }
+    ensures copied { into.new.items ≡ entries.now }
+    ensures few { length into.new.items ≤ 50 }
 {
-    let mut copy = ArrayVec::new();
-    let _ = copy.try_extend_from_slice(entries);
-    copy
+    into.truncate(entries.len());
+    let kept = into.len();
+    into.as_mut_slice().copy_from_slice(&entries[..kept]);
+    let _ = into.try_extend_from_slice(&entries[kept..]);
 }
 
-/// The entries that lie beyond the frontier and have a key below `below`, in their order.
-pub fn matches_beyond(
+/// Makes the list those of the entries that lie beyond the frontier and have a key below `below`, in their
+/// order. What was in it is gone.
+pub fn take_matches(
     entries: &[Entry],
     frontier: &Bound,
     below: &Option<Key>,
-) -> ArrayVec<Entry, 50>
+    into: &mut ArrayVec<Entry, 50>,
+)
     requires { length entries.now ≤ 50 }
-    ensures { IsAscending entries.now → IsCopiedFrom entries.now frontier.now below.now
-        result.items }
+    ensures copied { IsAscending entries.now → IsCopiedFrom entries.now frontier.now below.now
+        into.new.items }
+    ensures few { length into.new.items ≤ 50 }
 {
     let beyond = tail(entries, count_up_to(entries, frontier));
     let count = count_below(beyond, below);
-    copy_of(&beyond[..count])
+    copy_over(&beyond[..count], into);
 }
