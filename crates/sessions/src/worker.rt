@@ -245,9 +245,11 @@ fn wait_for<S: PageStore, T: DeadRows + Drop, J: JobsOn<S>, K: JobList, G: Gate,
     let rounds = &run.signals.rounds;
     match asked {
         Job::Commit => {
-            let before = rounds.ask_commit(run.rt);
+            let round = rounds.ask_commit(run.rt);
             my_turn.end(run.rt, &run.signals.turn_lock);
-            rounds.begin_commit(run.rt, before);
+            if let Some(round) = round {
+                rounds.begin_commit(run.rt, round);
+            }
             return;
         }
         Job::Insert(_) => rounds.begin_insert(run.rt),
