@@ -1,5 +1,5 @@
 -- Each event of a world that is fitted, by its kind.
-use Rattle.std.proofs.Common.{◌≡◌, ◌≢◌, ℕ, zero, suc, ◌<◌, ◌≤◌, ◌⊎◌, ◌||◌, Bool, true, false, Option, Some, None, Err, List, [], ◌∷◌, ◌++◌, length, slice_get, slice_set, refl, sym, ap, subst, arith, inl, inr, ◌∙◌}
+use Rattle.std.proofs.Common.{◌≡◌, ◌≢◌, ℕ, zero, suc, ◌<◌, ◌≤◌, ◌⊎◌, ◌||◌, Bool, true, false, true≢false, Option, Some, None, Err, List, [], ◌∷◌, ◌++◌, length, slice_get, slice_set, refl, sym, ap, subst, arith, inl, inr, ◌∙◌}
 use Rattle.session_calls.proofs.Counting.{due_still}
 use Rattle.schedule.proofs.Imports.{unwrap_or, append-nil, append_cancel_left, cases_eq, ltb-true, Effect, Action, Call, Meets, IsOwned, Circumstances, HasCause, Entry, Format, Fault, Stopped}
 use Rattle.schedule.proofs.Imports.{NoSession, SessionBusy, causes_of_forced, State, IsLater, Ghosts, OthersRely, PinnedLeafPagesStay, IsDueIn, HasSteps, DeadSets, asked_by, acts_of, begun_call}
@@ -18,9 +18,6 @@ use Rattle.schedule.proofs.Owners.{told_durable, acts_few}
 use Rattle.schedule.proofs.Vacuums.{before_vacuum, before_sweep, calm_request, none_runs, vacuums_still, sweep_begins, cleanup_begins, set_is}
 use Rattle.schedule.proofs.Meaning.{does_of}
 use Rattle.schedule.proofs.Fitting.{fits_from, beyond_of, matches_of, running_of}
-
-true_false : true ≡ false → ⊥
-true_false h = cc
 
 -- what an event leaves as it was: a call is due after as many steps on the same pages, within the same limits
 leaves_be : {S : Type 0} (g : Ghosts S) (kind : Kind) (old new : Moment S) → (g.state new.store).format ≡ (g.state old.store).format → (g.state new.store).frames ≡ (g.state old.store).frames
@@ -361,9 +358,9 @@ module _ {S : Type 0} (g : Ghosts S) (start : Entry → Bool) (old : Moment S) (
 
   -- what a bulk delete has to remove that begins: a cycle number is given for it
   given_cycle : (o : Op) → is_bulk_delete o ≡ true → OpDeletions (g.state store) old.sets start old.history (length old.calls) (length old.history) o → runs_bulk_delete (g.state store) ≡ true
-  given_cycle (Insert x) is h = absurd (true_false (sym is))
-  given_cycle (Scan x) is h = absurd (true_false (sym is))
-  given_cycle (Cleanup x) is h = absurd (true_false (sym is))
+  given_cycle (Insert x) is h = absurd (true≢false (sym is))
+  given_cycle (Scan x) is h = absurd (true≢false (sym is))
+  given_cycle (Cleanup x) is h = absurd (true≢false (sym is))
   given_cycle (Bulk set x) is h = h.1.runs
 
   begun_vacuums : OneVacuums (g.state store) (slice_set old.slots session (Some op))

@@ -1,5 +1,5 @@
 -- What each kind of event makes, by what the call after it promises.
-use Rattle.std.proofs.Common.{◌≡◌, ℕ, ◌&&◌, not, Bool, true, false, Option, Some, None, Ok, Err, List, length, slice_get, slice_set, refl, sym, ap, subst, inl, inr, ◌∙◌}
+use Rattle.std.proofs.Common.{◌≡◌, ℕ, ◌&&◌, not, Bool, true, false, true≢false, Option, Some, None, Ok, Err, List, length, slice_get, slice_set, refl, sym, ap, subst, inl, inr, ◌∙◌}
 use Rattle.session_calls.proofs.RunningOn.{runs_over, ends_with_last}
 use Rattle.schedule.proofs.Imports.{unwrap_or, Action, Ask, Call, Circumstances, HasCause, Entry, Fault, Stopped, KeyTooLong, BadRow, VacuumRunning, BadSuper, BadVersion, LogDamaged, BadLimits, DeviceTooSmall, nothing_wrong, is_at_end, causes_of_forced, State, Backing, Ghosts, IsDueIn, HasSteps}
 use Rattle.schedule.proofs.Imports.{StepAnswerMeans, StepAlways, IsFitted, StepFollows, DeadSets, op_before, asks_vacuum, asks_bulk_delete, is_bulk_delete, session_of, asked_of}
@@ -371,9 +371,6 @@ module _ {S : Type 0} (g : Ghosts S) (laws : Laws g) (old new : S) (follows : g.
   abbrev excluded : Bool
   excluded = asks_vacuum request && one_vacuums slots
 
-  true_false : true ≡ false → ⊥
-  true_false h = cc
-
   -- no fault is the first of those for which no session is found
   found_one : (fault : Fault) → session_to_begin (no_call_begins (g.state old) (g.backing old)) (is_of_sets sets request) (slice_get slots session) session ≡ Err fault → ⊥
   found_one fault h =
@@ -399,7 +396,7 @@ module _ {S : Type 0} (g : Ghosts S) (laws : Laws g) (old new : S) (follows : g.
     stands = tt;
     tells = tt;
     refused = λ fault e. absurd cc;
-    stopped = λ is. absurd (true_false (sym (none_begins (g.backing old).stopped (is_at_end (g.state old).begun) is) ∙ alive));
+    stopped = λ is. absurd (true≢false (sym (none_begins (g.backing old).stopped (is_at_end (g.state old).begun) is) ∙ alive));
     less = tt;
     kept = no_act (g.state old) (g.state new) (ap (λ (st : State). st.acts) h.state ∙ request_acts (asks_bulk_delete request) session (g.state old))
         (ap (λ (st : State). st.pages) h.state ∙ request_pages (asks_bulk_delete request) session (g.state old))
@@ -411,7 +408,7 @@ module _ {S : Type 0} (g : Ghosts S) (laws : Laws g) (old new : S) (follows : g.
     causes = tt;
     order = record {
       unfound = λ fault e. absurd (found_one fault e);
-      excluded = λ known asks runs. absurd (true_false (sym (all_true (asks_vacuum request) (one_vacuums slots) asks runs) ∙ h.alone));
+      excluded = λ known asks runs. absurd (true≢false (sym (all_true (asks_vacuum request) (one_vacuums slots) asks runs) ∙ h.alone));
     };
     fresh = λ begun. set_is slots session slot (get_within slots session None free) ∙ h.runs;
     numbered = λ begun. h.state;
@@ -425,7 +422,7 @@ module _ {S : Type 0} (g : Ghosts S) (laws : Laws g) (old new : S) (follows : g.
     stands = tt;
     tells = tt;
     refused = λ f e. record { state_is = h.state; slots_is = ap (λ (x : Option Op). slice_set slots session x) (h.slot_is ∙ before_is) ∙ set_same slots session None free };
-    stopped = λ is. absurd (true_false (sym (none_begins (g.backing old).stopped (is_at_end (g.state old).begun) is) ∙ alive));
+    stopped = λ is. absurd (true≢false (sym (none_begins (g.backing old).stopped (is_at_end (g.state old).begun) is) ∙ alive));
     less = tt;
     kept = still (g.state old) (g.state new) h.state;
     calm = ap (λ (st : State). st.acts) h.state;

@@ -1,5 +1,5 @@
 -- A bulk delete waits for a scan that stands on a leaf that it hasn't come to, over runs.
-use Rattle.std.proofs.Common.{◌≡◌, ◌≢◌, ℕ, suc, ◌≤◌, ◌||◌, Bool, true, false, Option, Some, None, List, [], ◌∷◌, ◌++◌, length, slice_get, slice_set, refl, sym, ap, subst, arith, inl, inr, ◌∙◌}
+use Rattle.std.proofs.Common.{◌≡◌, ◌≢◌, ℕ, suc, ◌≤◌, ◌||◌, Bool, true, false, true≢false, Option, Some, None, List, [], ◌∷◌, ◌++◌, length, slice_get, slice_set, refl, sym, ap, subst, arith, inl, inr, ◌∙◌}
 use Rattle.page_action.proofs.StoredPages.{stored_page}
 use Rattle.tree_acts.proofs.Removing.{leaf_is}
 use Rattle.schedule.proofs.Imports.{unwrap_or, cases_eq, eq-eqb, Call, Entry, Holding, has_pin, holding_of, Page, State, Ghosts, IsLeafAt, IsInOrder, LeafIsLive, leaf_pinned, DeadSets, acts_of}
@@ -13,9 +13,6 @@ use Rattle.schedule.proofs.Leaves.{leaf_same}
 use Rattle.schedule.proofs.Lists.{get_set_same, get_set_other, get_within, same_some}
 use Rattle.schedule.proofs.Vacuums.{sweep_vacuums, asked_sweep}
 use Rattle.schedule.proofs.Fitting.{fits_after, goes_does, running_of}
-
-true_false : true ≡ false → ⊥
-true_false h = cc
 
 -- a leaf isn't the metapage
 leaf_above : (st : State) (block : ℕ) (page : Page) → IsInOrder st → IsLeafAt st.pages block page → 1 ≤ block
@@ -38,7 +35,7 @@ not_sweep_come block None h = tt
 not_sweep_come block (Some (Insert op)) h = tt
 not_sweep_come block (Some (Scan op)) h = tt
 not_sweep_come block (Some (Cleanup op)) h = tt
-not_sweep_come block (Some (Bulk set op)) h = absurd (true_false h)
+not_sweep_come block (Some (Bulk set op)) h = absurd (true≢false h)
 
 -- a bulk delete that begins has come to no leaf
 fresh_come : (block session : ℕ) (request : Request) → 1 ≤ block → HasNotCome block (Some (op_before session request))
@@ -196,7 +193,7 @@ module _ {S : Type 0} (g : Ghosts S) (start : Entry → Bool) where
     steps_keep session answer does = by (slot_of old.slots session) refl
       where
         calm : slot_is_bulk_delete (slot_of old.slots session) ≡ false → DoesNotFinish (MovesCall session Steps) answer old × NoneHasCome block new
-        calm idle = (λ deletions stats finished. true_false (sym deletions ∙ idle), calm_moves session Steps answer does idle)
+        calm idle = (λ deletions stats finished. true≢false (sym deletions ∙ idle), calm_moves session Steps answer does idle)
 
         by : (slot : Option Op) → slot_of old.slots session ≡ slot → DoesNotFinish (MovesCall session Steps) answer old × NoneHasCome block new
         by None is = calm (ap slot_is_bulk_delete is)

@@ -1,12 +1,9 @@
 -- Which session runs a bulk delete or a cleanup, after a slot that is set.
-use Rattle.std.proofs.Common.{◌≡◌, ◌≢◌, ℕ, zero, suc, ◌<◌, ◌||◌, ◌&&◌, Bool, true, false, Option, Some, None, List, [], ◌∷◌, length, slice_set, refl, sym, ap, subst, arith, inl, inr, ◌∙◌}
+use Rattle.std.proofs.Common.{◌≡◌, ◌≢◌, ℕ, zero, suc, ◌<◌, ◌||◌, ◌&&◌, Bool, true, false, true≢false, Option, Some, None, List, [], ◌∷◌, length, slice_set, refl, sym, ap, subst, arith, inl, inr, ◌∙◌}
 use Rattle.schedule.proofs.Imports.{unwrap_or, list_any, cases_eq, Ask, AskInsert, AskScan, AskBulkDelete, AskCleanup, State, DeadSets, asked_of, op_before, asks_vacuum, asks_bulk_delete}
 use Rattle.schedule.proofs.Imports.{is_vacuum, is_bulk_delete, runs_bulk_delete, cycle_after, asks_cleanup, Op, Insert, Scan, Bulk, Cleanup, Request, ToInsert, ToScan, ToBulk, ToCleanup, slot_of}
 use Rattle.schedule.proofs.Imports.{slot_vacuums, one_vacuums, slot_is_bulk_delete, one_is_bulk_delete, OneVacuums}
 use Rattle.schedule.proofs.Lists.{get_set_same, get_set_other}
-
-true_false : true ≡ false → ⊥
-true_false h = cc
 
 not_true : (b : Bool) → (b ≡ true → ⊥) → b ≡ false
 not_true true h = absurd (h refl)
@@ -27,7 +24,7 @@ set_other slots session other slot apart = ap (λ (o : Option (Option Op)). unwr
 module _ (test : Option Op → Bool) (none_fails : test None ≡ false) where
   -- a session passes it exactly if some does
   pub any_true : (slots : List (Option Op)) → list_any test slots ≡ true → (session : ℕ) × (test (slot_of slots session) ≡ true)
-  any_true [] h = absurd (true_false (sym h))
+  any_true [] h = absurd (true≢false (sym h))
   any_true (x ∷ xs) h = by (test x) refl (λ more. any_true xs more)
     where
       by : (b : Bool) → test x ≡ b → (list_any test xs ≡ true → (session : ℕ) × (test (slot_of xs session) ≡ true)) → (session : ℕ) × (test (slot_of (x ∷ xs) session) ≡ true)
@@ -35,7 +32,7 @@ module _ (test : Option Op → Bool) (none_fails : test None ≡ false) where
       by false is rest = (let found = rest (subst (λ (c : Bool). (c || list_any test xs) ≡ true) is h) in (suc found.0, found.1))
 
   pub true_any : (slots : List (Option Op)) (session : ℕ) → test (slot_of slots session) ≡ true → list_any test slots ≡ true
-  true_any [] session h = absurd (true_false (sym h ∙ none_fails))
+  true_any [] session h = absurd (true≢false (sym h ∙ none_fails))
   true_any (x ∷ xs) zero h = subst (λ (c : Bool). (c || list_any test xs) ≡ true) (sym h) refl
   true_any (x ∷ xs) (suc session) h = or_true (test x) (list_any test xs) (true_any xs session h)
 
@@ -55,10 +52,10 @@ module _ (test : Option Op → Bool) (none_fails : test None ≡ false) where
 
 -- a bulk delete vacuums
 pub sweep_vacuums : (slot : Option Op) → slot_is_bulk_delete slot ≡ true → slot_vacuums slot ≡ true
-sweep_vacuums None h = absurd (true_false (sym h))
-sweep_vacuums (Some (Insert op)) h = absurd (true_false (sym h))
-sweep_vacuums (Some (Scan op)) h = absurd (true_false (sym h))
-sweep_vacuums (Some (Cleanup op)) h = absurd (true_false (sym h))
+sweep_vacuums None h = absurd (true≢false (sym h))
+sweep_vacuums (Some (Insert op)) h = absurd (true≢false (sym h))
+sweep_vacuums (Some (Scan op)) h = absurd (true≢false (sym h))
+sweep_vacuums (Some (Cleanup op)) h = absurd (true≢false (sym h))
 sweep_vacuums (Some (Bulk set op)) h = refl
 
 -- the cycle number is of the state alone
@@ -76,7 +73,7 @@ vacuums_still old new slots session slot within same deletions cycle h = record 
 module _ (old : State) (slots : List (Option Op)) (session : ℕ) (within : session < length slots) (was : slot_vacuums (slot_of slots session) ≡ true) (h : OneVacuums old slots) where
   none_left : (a : ℕ) → slot_vacuums (slot_of (slice_set slots session None) a) ≡ true → ⊥
   none_left a va = elim (cases_eq a session) [
-    | inl e ↦ true_false (sym (subst (λ (s : ℕ). slot_vacuums (slot_of (slice_set slots session None) s) ≡ true) e va) ∙ ap slot_vacuums (set_is slots session None within))
+    | inl e ↦ true≢false (sym (subst (λ (s : ℕ). slot_vacuums (slot_of (slice_set slots session None) s) ≡ true) e va) ∙ ap slot_vacuums (set_is slots session None within))
     | inr n ↦ n (h.alone a session (sym (ap slot_vacuums (set_other slots session a None n)) ∙ va) was)
   ]
 
@@ -90,7 +87,7 @@ module _ (old : State) (slots : List (Option Op)) (session : ℕ) (within : sess
 
 -- none runs if none of the slots vacuums
 pub none_runs : (slots : List (Option Op)) → one_vacuums slots ≡ false → (session : ℕ) → slot_vacuums (slot_of slots session) ≡ true → ⊥
-none_runs slots idle session vacuums = true_false (sym (true_any slot_vacuums refl slots session vacuums) ∙ idle)
+none_runs slots idle session vacuums = true≢false (sym (true_any slot_vacuums refl slots session vacuums) ∙ idle)
 
 -- ... so there is no cycle number
 pub none_sweeping : (st : State) (slots : List (Option Op)) → OneVacuums st slots → one_vacuums slots ≡ false → runs_bulk_delete st ≡ false
@@ -116,7 +113,7 @@ module _ (old : State) (slots : List (Option Op)) (session : ℕ) (slot : Option
   none_else : slot_is_bulk_delete slot ≡ false → (a : ℕ) → slot_is_bulk_delete (slot_of (slice_set slots session slot) a) ≡ true → ⊥
   none_else calm a deletions =
       let same : a ≡ session = only_this a (sweep_vacuums (slot_of (slice_set slots session slot) a) deletions) in
-      true_false (sym (subst (λ (s : ℕ). slot_is_bulk_delete (slot_of (slice_set slots session slot) s) ≡ true) same deletions) ∙ ap slot_is_bulk_delete (set_is slots session slot within) ∙ calm)
+      true≢false (sym (subst (λ (s : ℕ). slot_is_bulk_delete (slot_of (slice_set slots session slot) s) ≡ true) same deletions) ∙ ap slot_is_bulk_delete (set_is slots session slot within) ∙ calm)
 
   -- a cleanup, which gets none
   pub cleanup_begins : (new : State) → slot_is_bulk_delete slot ≡ false → new.cycle ≡ old.cycle → OneVacuums new (slice_set slots session slot)
@@ -167,32 +164,32 @@ before_sweep session ToCleanup = refl
 pub calm_sweep : (op : Op) → is_vacuum op ≡ false → is_bulk_delete op ≡ false
 calm_sweep (Insert op) h = refl
 calm_sweep (Scan op) h = refl
-calm_sweep (Bulk set op) h = absurd (true_false h)
+calm_sweep (Bulk set op) h = absurd (true≢false h)
 calm_sweep (Cleanup op) h = refl
 
 pub calm_cleanup : (sets : DeadSets) (op : Op) → is_vacuum op ≡ false → asks_cleanup (asked_of sets op) ≡ false
 calm_cleanup sets (Insert op) h = refl
 calm_cleanup sets (Scan op) h = refl
 calm_cleanup sets (Bulk set op) h = refl
-calm_cleanup sets (Cleanup op) h = absurd (true_false h)
+calm_cleanup sets (Cleanup op) h = absurd (true≢false h)
 
 pub calm_request : (request : Request) → asks_vacuum request ≡ false → asks_bulk_delete request ≡ false
 calm_request (ToInsert e) h = refl
 calm_request (ToScan range) h = refl
-calm_request (ToBulk set) h = absurd (true_false h)
+calm_request (ToBulk set) h = absurd (true≢false h)
 calm_request ToCleanup h = refl
 
 -- if the request asks for neither, or none of them runs, it isn't excluded
 pub not_excluded : (asks runs : Bool) → (asks && runs) ≡ false → asks ≡ true → runs ≡ false
 not_excluded true runs h is = h
-not_excluded false runs h is = absurd (true_false (sym is))
+not_excluded false runs h is = absurd (true≢false (sym is))
 
 -- after an event of a call that is no bulk delete the cycle number is as it was
 pub cycle_kept : (sets : DeadSets) (op : Op) (slot : Option Op) (cycle : ℕ) → is_bulk_delete op ≡ false → cycle_after (asked_of sets op) slot cycle ≡ cycle
 cycle_kept sets (Insert op) slot cycle h = refl
 cycle_kept sets (Scan op) slot cycle h = refl
 cycle_kept sets (Cleanup op) slot cycle h = refl
-cycle_kept sets (Bulk set op) slot cycle h = absurd (true_false h)
+cycle_kept sets (Bulk set op) slot cycle h = absurd (true≢false h)
 
 -- after an event of a session's call
 pub vacuums_go : (old new : State) (sets : DeadSets) (slots : List (Option Op)) (session : ℕ) (op : Op) (slot : Option Op) → session < length slots → slot_of slots session ≡ Some op
@@ -211,15 +208,15 @@ vacuums_go old new sets slots session op slot within was cycle asks h = by slot 
 
     -- the store of one that ends has no cycle number
     ending : (o : Op) → is_vacuum o ≡ true → slot_of slots session ≡ Some o → new.cycle ≡ cycle_after (asked_of sets o) None old.cycle → runs_bulk_delete new ≡ false
-    ending (Insert o) is at now = absurd (true_false (sym is))
-    ending (Scan o) is at now = absurd (true_false (sym is))
+    ending (Insert o) is at now = absurd (true≢false (sym is))
+    ending (Scan o) is at now = absurd (true≢false (sym is))
     ending (Bulk set o) is at now = ap (λ (n : ℕ). runs_bulk_delete (record old { cycle = n })) now
     ending (Cleanup o) is at now = cycle_same old new now ∙ h.cycle ∙ not_true (one_is_bulk_delete slots) (λ one. others_calm (any_true slot_is_bulk_delete refl slots one))
       where
         others_calm : ((a : ℕ) × (slot_is_bulk_delete (slot_of slots a) ≡ true)) → ⊥
         others_calm some =
             let same : some.0 ≡ session = h.alone some.0 session (sweep_vacuums (slot_of slots some.0) some.1) (ap slot_vacuums at) in
-            true_false (sym (subst (λ (s : ℕ). slot_is_bulk_delete (slot_of slots s) ≡ true) same some.1) ∙ ap slot_is_bulk_delete at)
+            true≢false (sym (subst (λ (s : ℕ). slot_is_bulk_delete (slot_of slots s) ≡ true) same some.1) ∙ ap slot_is_bulk_delete at)
 
     by : (x : Option Op) → slot ≡ x → (b : Bool) → is_vacuum op ≡ b → OneVacuums new (slice_set slots session slot)
     by (Some after) at b is = vacuums_still old new slots session slot within

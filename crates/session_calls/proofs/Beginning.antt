@@ -1,5 +1,5 @@
 -- Beginnings over histories.
-use Rattle.std.proofs.Common.{◌≡◌, ◌+◌, ◌≤◌, ℕ, slice_get, ◌<◌, Bool, true, false, not, Option, Some, None, List, [], ◌∷◌, length, refl, sym, ap, subst, ◌∙◌, arith, length-set}
+use Rattle.std.proofs.Common.{◌≡◌, ◌+◌, ◌≤◌, ℕ, slice_get, ◌<◌, Bool, true, false, true≢false, not, Option, Some, None, List, [], ◌∷◌, length, refl, sym, ap, subst, ◌∙◌, arith, length-set}
 use Rattle.index_model.proofs.Order.{from_key}
 use Rattle.tree_acts.proofs.Leaving.{leaves_same}
 use Rattle.session_calls.proofs.Counting.{due_still}
@@ -110,11 +110,8 @@ past_start range e = by range.from
     by None = none e.key e
     by (Some k) = from_key k e
 
-true_false : true ≡ false → ⊥
-true_false h = cc
-
 not_before : (range : Range) (e : Entry) → matches range e ≡ true → is_past (start_of range) e ≡ false → ⊥
-not_before range e match not = true_false (sym (past_start range e ∙ (and_parts (from_admits range.from e.key) (below_admits range.below e.key) match).0) ∙ not)
+not_before range e match not = true≢false (sym (past_start range e ∙ (and_parts (from_admits range.from e.key) (below_admits range.below e.key) match).0) ∙ not)
 
 nothing_given : (start : Entry → Bool) (history : List Action) (range : Range) (began : ℕ) → GivesOnly start history range began began []
 nothing_given start history range began = record { ascending = tt; matched = λ e h. absurd cc; was_there = λ e h. absurd cc }

@@ -1,5 +1,5 @@
 -- The steps of a cleanup over histories.
-use Rattle.std.proofs.Common.{◌≡◌, ℕ, suc, Bool, true, false, if◌then◌else◌, Option, Some, None, List, length, refl, sym, ap, subst, arith}
+use Rattle.std.proofs.Common.{◌≡◌, ℕ, suc, Bool, true, false, true≢false, if◌then◌else◌, Option, Some, None, List, length, refl, sym, ap, subst, arith}
 use Rattle.page_delete.specs.Cleanups.{CleanupContinues, CleanupEnds, CleanupStays, causes_of_cleaning}
 use Rattle.session_calls.proofs.Imports.{append-nil, Effect, Add, Remove, Shape, Action, contents_after, Ask, AskCleanup, Vacuumed, Call, AnswersRight, Meets, Circumstances, HasCause, Entry}
 use Rattle.session_calls.proofs.Imports.{Fault, VacuumStats, State, Backing, DeletesLeaves, IsCleaned, CleanupOp, PinnedLeafPagesStay, ends_call, DeadSets, causes_of_stepped, CallFits, IsAsked}
@@ -7,9 +7,6 @@ use Rattle.session_calls.proofs.Imports.{add_after, ended, OpEvent, slot_after, 
 use Rattle.session_calls.proofs.Effects.{works_cleaning, works_nothing}
 use Rattle.session_calls.proofs.Going.{step_goes_on, step_is_refused}
 use Rattle.session_calls.proofs.Meeting.{began_before}
-
-true_false : true ≡ false → ⊥
-true_false h = cc
 
 -- what a cleanup does it was asked for, and none of it is an Add
 may_do : (was_there : Entry → Bool) (added : Option ℕ) (old new : State) (effect : Option Effect) → DeletesLeaves effect old new → IsAsked was_there AskCleanup added effect
@@ -59,7 +56,7 @@ module _ {sets : DeadSets} (old new : State) (first second : Backing) (start : E
       right = subst (λ (a : Ask). AnswersRight start history number call.began (length history) a call.given call.added (Vacuumed stats)) (sym fits.runs.ask) tt;
     });
     holds = λ h. cc;
-    deletions = λ more. absurd (true_false more);
+    deletions = λ more. absurd (true≢false more);
   }
 
   pub cleanup_is_refused : (fault : Fault) → CleanupStays old new before after → HasCause (causes_of_cleaning old first second before) fault

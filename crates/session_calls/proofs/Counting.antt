@@ -1,5 +1,5 @@
 -- The steps of a call that is due, counted down.
-use Rattle.std.proofs.Common.{◌≡◌, ℕ, suc, ◌<◌, Bool, true, false, Option, Some, None, List, length, slice_get, refl, sym, ap, subst, ◌∙◌, arith}
+use Rattle.std.proofs.Common.{◌≡◌, ℕ, suc, ◌<◌, Bool, true, false, true≢false, Option, Some, None, List, length, slice_get, refl, sym, ap, subst, ◌∙◌, arith}
 use Rattle.index_model.specs.declared.format.Format.{Format}
 use Rattle.page_codec.specs.Edits.{entries_of}
 use Rattle.tree_shape.specs.Walks.{entry_aim, frontier_aim}
@@ -66,9 +66,6 @@ due_still old new (Some (Scan op)) steps format same due = record {
   none = due.none;
 }
 
-true_false : {b : Bool} → b ≡ false → b ≡ true → ⊥
-true_false falls holds = cc
-
 none_incomplete : (pages : List Page) (block : ℕ) → NoneIsIncomplete pages → (nodes_of pages block).split ≡ false
 none_incomplete pages block whole = by (slice_get pages block) refl
   where
@@ -89,7 +86,7 @@ quiet_on_way : (old new : State) (e : Entry) (was now : Option ℕ) (effect : Op
 quiet_on_way old new e was now None changes flags noted none whole = ap (λ (st : State). st.pages) changes
 quiet_on_way old new e was now (Some (Add x)) changes flags noted none whole = absurd (let is : Some (suc old.acts) ≡ None = sym noted.2 ∙ none in cc)
 quiet_on_way old new e was now (Some (Remove es)) changes flags noted none whole = absurd noted
-quiet_on_way old new e was now (Some Shape) changes flags noted none whole = absurd (true_false (none_incomplete old.pages flags.cleared whole) flags.was)
+quiet_on_way old new e was now (Some Shape) changes flags noted none whole = absurd (true≢false (sym flags.was ∙ none_incomplete old.pages flags.cleared whole))
 
 some_steps : (st : State) (e : Entry) (at : InsertAt) → IsOnEntryWay st e at → 0 < insert_steps st.pages at
 some_steps st e (Coming InsertStart) position = omega arith

@@ -1,5 +1,5 @@
 -- The steps of a bulk delete over histories.
-use Rattle.std.proofs.Common.{◌≡◌, ℕ, suc, ◌+◌, ◌<◌, ◌≤◌, ◌==◌, if◌then◌else◌, Bool, true, false, Option, Some, None, List, [], ◌∷◌, ◌++◌, length, drop, get_or, slice_get, map, refl, sym, ap, subst, ◌∙◌, arith, inl, inr, ◌⊎◌}
+use Rattle.std.proofs.Common.{◌≡◌, ℕ, suc, ◌+◌, ◌<◌, ◌≤◌, ◌==◌, if◌then◌else◌, Bool, true, false, true≢false, Option, Some, None, List, [], ◌∷◌, ◌++◌, length, drop, get_or, slice_get, map, refl, sym, ap, subst, ◌∙◌, arith, inl, inr, ◌⊎◌}
 use Rattle.std.specs.Option.{option_map}
 use Rattle.vacuum.specs.Ops.{next_block}
 use Rattle.vacuum.specs.Vacuuming.{DueIsToCome}
@@ -16,9 +16,6 @@ use Rattle.session_calls.proofs.Effects.{works_on, works_nothing, go_pages}
 use Rattle.session_calls.proofs.Going.{step_goes_on, step_is_refused}
 use Rattle.session_calls.proofs.Meeting.{began_before}
 use Rattle.session_calls.proofs.Vacuuming.{due_before, longer_by, removed_append}
-
-true_false : true ≡ false → ⊥
-true_false h = cc
 
 -- the set at a place of the sets
 pub set_found : {T : Type 0} (is_in : T → Row → Bool) (sets : List T) (set : ℕ) (dead : T) → set < length sets → dead ≡ get_or sets set dead → is_in dead ≡ set_at (map is_in sets) set
@@ -42,7 +39,7 @@ adds_or (Add x) e = by (same_entry x e) refl
   where
     by : (b : Bool) → same_entry x e ≡ b → (Add x ≡ Add e) ⊎ (Add x ≡ Add e → ⊥)
     by true is = inl (ap Add (same_entry-is x e is))
-    by false is = inr (λ h. (let k : x ≡ e = cc in true_false (sym (same_entry-self x) ∙ ap (same_entry x) k ∙ is)))
+    by false is = inr (λ h. (let k : x ≡ e = cc in true≢false (sym (same_entry-self x) ∙ ap (same_entry x) k ∙ is)))
 adds_or (Remove es) e = inr (λ h. absurd cc)
 adds_or Shape e = inr (λ h. absurd cc)
 
@@ -215,7 +212,7 @@ module _ {sets : DeadSets} (old new : State) (first second : Backing) (start : E
         → is_there_after start history (length history) e ≡ true → IsAddedIn (drop call.began history) e
     gone_or_added e (inl added) row was still = added
     gone_or_added e (inr none) row was still =
-        absurd (true_false (sym still ∙ there_now start history e ∙ not_there e (record { row = row; was_there = was; not_added = none })))
+        absurd (true≢false (sym still ∙ there_now start history e ∙ not_there e (record { row = row; was_there = was; not_added = none })))
 
     answer : IsBulkDeleteAnswer start history number call.began (length history) dead stats
     answer = record {
@@ -237,7 +234,7 @@ module _ {sets : DeadSets} (old new : State) (first second : Backing) (start : E
         right = subst (λ (a : Ask). AnswersRight start history number call.began (length history) a call.given call.added (Vacuumed stats)) (sym fits.runs.ask) answer;
       });
       holds = λ h. cc;
-      deletions = λ more. absurd (true_false more);
+      deletions = λ more. absurd (true≢false more);
     }
 
   pub bulk_is_refused : (fault : Fault) → BulkDeleteStays old new before after → HasCause (causes_of_deleting dead old first second before) fault

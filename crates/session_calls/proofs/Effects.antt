@@ -1,5 +1,5 @@
 -- What a step does to the pages, over histories; and the end of a call, which lets go what its session held.
-use Rattle.std.proofs.Common.{◌≡◌, ◌⊎◌, inl, inr, ℕ, suc, ◌<◌, Bool, true, false, Option, Some, None, List, [], ◌∷◌, ◌++◌, length, refl, sym, ap, subst, ◌∙◌, arith, length-append, length-set}
+use Rattle.std.proofs.Common.{◌≡◌, ◌⊎◌, inl, inr, ℕ, suc, ◌<◌, Bool, true, false, true≢false, Option, Some, None, List, [], ◌∷◌, ◌++◌, length, refl, sym, ap, subst, ◌∙◌, arith, length-append, length-set}
 use Rattle.latch_table.specs.Holdings.{Holding, nothing_held, latches_exclude}
 use Rattle.latch_table.specs.declared.mode.Mode.TheVariants.{Shared}
 use Rattle.latch_table.proofs.Tables.{length-with_holding, holding_of-with_holding, holding_of-with_holding_other}
@@ -20,11 +20,8 @@ shape_none (AskInsert e) old new = tt
 shape_none (AskScan range) old new = tt
 shape_none (AskBulkDelete dead) old new = tt
 
-true_false : true ≡ false → ⊥
-true_false h = cc
-
 shape_of : (ask : Ask) (effect : Option Effect) (old new : State) → asks_cleanup ask ≡ false → MovesFlags effect old new → MovesShape ask effect old new
-shape_of AskCleanup effect old new other h = absurd (true_false other)
+shape_of AskCleanup effect old new other h = absurd (true≢false other)
 shape_of (AskInsert e) effect old new other h = h
 shape_of (AskScan range) effect old new other h = h
 shape_of (AskBulkDelete dead) effect old new other h = h
@@ -53,7 +50,7 @@ pub works_cleaning : (session : ℕ) (effect : Option Effect) (old new : State) 
 works_cleaning session effect old new does pinned = record {
   changes = does.changes;
   shape = does.deletes;
-  leaves = λ other. absurd (true_false other);
+  leaves = λ other. absurd (true≢false other);
   pinned = pinned;
   cycle = does.cycle;
   format = does.format;

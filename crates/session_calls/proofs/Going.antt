@@ -1,5 +1,5 @@
 -- Steps of operations over histories, and the events that they make.
-use Rattle.std.proofs.Common.{◌≡◌, ◌≢◌, ℕ, suc, ◌+◌, ◌<◌, Bool, true, false, if◌then◌else◌, Option, Some, None, List, [], ◌++◌, length, refl, sym, ap, subst, ◌∙◌}
+use Rattle.std.proofs.Common.{◌≡◌, ◌≢◌, ℕ, suc, ◌+◌, ◌<◌, Bool, true, false, true≢false, if◌then◌else◌, Option, Some, None, List, [], ◌++◌, length, refl, sym, ap, subst, ◌∙◌}
 use Rattle.session_calls.proofs.Imports.{append-nil, Effect, Action, contents_after, Ask, AskInsert, AskScan, Running, EndsAdded, GivenUp, Failed, Call, InsertMayFail, Meets, Circumstances}
 use Rattle.session_calls.proofs.Imports.{HasCause, Row, Entry, Fault, Range, with_row, other_row_is_there, entry_on_live_leaf, State, nothing_else, ends_call, DeadSets, acts_of, session_of}
 use Rattle.session_calls.proofs.Imports.{is_bulk_delete, asked_of, add_of, OpInvariant, OpKnows, IsCaused, once_added, IsFaultCaused, is_last, Matches, OpRuns, CallFits, act_count, IsAsked}
@@ -140,9 +140,6 @@ event_of_nothing {sets} at old new start history number call after op answer m s
   deletions = subst (λ (l : List Action). OpDeletions new sets start l number after.began op) (sym (append-nil history)) deletions;
 }
 
-true_false : true ≡ false → ⊥
-true_false h = cc
-
 -- the steps of an operation that runs a call
 module _ {sets : DeadSets} (at : Circumstances) (old new : State) (start : Entry → Bool) (history : List Action) (number : ℕ) (call : Call) (before after : Op)
     (fits : CallFits old sets start history number call before) (session : session_of after ≡ session_of before) (ask : asked_of sets after ≡ asked_of sets before) where
@@ -225,7 +222,7 @@ module _ {sets : DeadSets} (at : Circumstances) (old new : State) (start : Entry
             (meets_ended_added start more number then_call (meets_noted start history number call fits.meets fits.running effect asked) fits.running e
             action unfinished (fits.runs.ask ∙ inserts) noted_is);
         holds = λ h. absurd cc;
-        deletions = λ more. absurd (true_false more);
+        deletions = λ more. absurd (true≢false more);
       }
 
   -- one that is refused
@@ -261,7 +258,7 @@ module _ {sets : DeadSets} (at : Circumstances) (old new : State) (start : Entry
         meets = subst (λ (l : List Action). Meets start l number (ended call (Failed fault) (length history))) (sym (append-nil history))
             (meets_failed start history number call fits.meets fits.running fault (may ends));
         holds = subst (λ (b : Bool). HoldsOn b new sets start (history ++ []) (ended call (Failed fault) (length history)) after) (sym ends) (λ h. cc);
-        deletions = λ more. absurd (true_false (sym ends ∙ more));
+        deletions = λ more. absurd (true≢false (sym ends ∙ more));
       }
       by_end false ends = record {
         effect = None;

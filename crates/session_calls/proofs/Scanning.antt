@@ -1,5 +1,5 @@
 -- Events of scans over histories.
-use Rattle.std.proofs.Common.{◌≡◌, ◌⊎◌, ℕ, suc, ◌≤◌, Bool, true, false, ◌||◌, Option, Some, None, List, [], ◌∷◌, ◌++◌, length, refl, sym, ap, subst, inl, inr, ◌∙◌, arith, append_assoc}
+use Rattle.std.proofs.Common.{◌≡◌, ◌⊎◌, ℕ, suc, ◌≤◌, Bool, true, false, true≢false, ◌||◌, Option, Some, None, List, [], ◌∷◌, ◌++◌, length, refl, sym, ap, subst, inl, inr, ◌∙◌, arith, append_assoc}
 use Rattle.std.specs.List.{AllByRecursion}
 use Rattle.descent.specs.declared.position.Position.{Position}
 use Rattle.session_calls.proofs.Imports.{append-nil, or_cases, cases_Bool, Action, Ask, AskScan, Ending, Running, EndsFinished, Call, IsReached, IsUpToLast, IsScanAnswer, IsScanAnswerSoFar}
@@ -21,9 +21,6 @@ or_right : (a b : Bool) → b ≡ true → (a || b) ≡ true
 or_right true b h = refl
 or_right false b h = h
 
-true_false : true ≡ false → ⊥
-true_false h = cc
-
 all_past : (low : Option Bound) (xs : List Entry) → AscendsPast low xs → AllByRecursion (IsPast low) xs
 all_past low [] h = tt
 all_past low (x ∷ xs) h = (h.0, weaken xs (all_past (Some (bound_of x)) xs h.1))
@@ -42,7 +39,7 @@ at_or_before b x e up h =
     elim (three_ways x e) [
       | inl same ↦ subst (λ (y : Entry). is_past b y ≡ false) (sym (same_entry-is x e same)) h
       | inr (inl before) ↦ is_past-falls b x e h before
-      | inr (inr beyond) ↦ absurd (true_false (sym beyond ∙ up))
+      | inr (inr beyond) ↦ absurd (true≢false (sym beyond ∙ up))
     ]
 
 -- what isn't beyond an entry that the scan has read beyond, it has read beyond too
@@ -67,7 +64,7 @@ module _ (st : State) (start : Entry → Bool) (history : List Action) (began : 
   -- what lies beyond the frontier lies beyond the last that was given
   beyond_last : (e : Entry) → is_past before.frontier e ≡ true → IsPast (last_or None given) e
   beyond_last e past = subst (λ (xs : List Entry). IsPast (last_or None xs) e) was_given
-      (far.next_page e (λ is_after. true_false (sym past ∙ subst (λ (a : ScanAt). IsAfter before.frontier a e) from is_after)))
+      (far.next_page e (λ is_after. true≢false (sym past ∙ subst (λ (a : ScanAt). IsAfter before.frontier a e) from is_after)))
 
   fresh_ascend : AscendsPast (last_or None given) (waiting after)
   fresh_ascend = AscendsPast-from (Some before.frontier) (last_or None given) (waiting after) read.ascends
@@ -143,7 +140,7 @@ module _ (start : Entry → Bool) (history : List Action) (began : ℕ) (given r
         let among : is_among ((given ++ e ∷ []) ++ rest) x ≡ true = subst (λ (xs : List Entry). is_among xs x ≡ true) (sym joined) (far.complete x is_after match through) in
         elim (or_cases (is_among (given ++ e ∷ []) x) (is_among rest x) (sym (is_among-append (given ++ e ∷ []) rest x) ∙ among)) [
           | inl a ↦ a
-          | inr b ↦ absurd (true_false (sym (rest_beyond x b) ∙ up))
+          | inr b ↦ absurd (true≢false (sym (rest_beyond x b) ∙ up))
         ];
   }
 

@@ -1,6 +1,6 @@
 -- One step of a session's call after the making of room for it, and a call that is given up because the room
 -- can't be made.
-use Rattle.std.proofs.Common.{◌≡◌, ◌⊎◌, ℕ, ◌≤◌, zero, suc, Bool, true, false, not, Option, Some, None, List, [], ◌∷◌, ◌++◌, length, slice_get, slice_set, refl, sym, ap, subst, arith, inl, inr, ◌∙◌, unwrap_or}
+use Rattle.std.proofs.Common.{◌≡◌, ◌⊎◌, ℕ, ◌≤◌, zero, suc, Bool, true, false, true≢false, not, Option, Some, None, List, [], ◌∷◌, ◌++◌, length, slice_get, slice_set, refl, sym, ap, subst, arith, inl, inr, ◌∙◌, unwrap_or}
 use Rattle.whole_calls.proofs.Composing.{is_later, joined_second, goes_once}
 use Rattle.whole_calls.proofs.Made.{made_alone, made_last, made_once, made_then, made_told}
 use Rattle.whole_calls.proofs.Imports.{Blocked, NoSession, VacuumStats, causes_of_forced, ends_call, is_last, start_number, after_slot, RefusalChangesNothing, RunsUntilLast, Inserts, Scans, Bulks}
@@ -11,7 +11,7 @@ use Rattle.whole_calls.proofs.Imports.{IsAmong, CallIsRun, cut_short, HasStepped
 use Rattle.whole_calls.proofs.Imports.{Checkpoint, Checkpoints, MaintainsStore, StepComesTo, causes_of_asked, RoomMeans, StepIsRun, RoomIsMade, IsOwnEffect, IsSameHistory, HasNone, EndMeans}
 use Rattle.whole_calls.proofs.Lasting.{step_goes, room_then}
 use Rattle.whole_calls.proofs.Refusing.{cause_wider, forced_cause, asked_after}
-use Rattle.whole_calls.proofs.Tellings.{moves_tells, one_runs, runs_has_call, runs_in_slot, true_false}
+use Rattle.whole_calls.proofs.Tellings.{moves_tells, one_runs, runs_has_call, runs_in_slot}
 use Rattle.whole_calls.proofs.Blocks.{LeavesAll, leaves_state}
 use Rattle.whole_calls.specs.Parts.{RunsUnlessLast}
 
@@ -179,13 +179,13 @@ step_short tried = made_told (made_alone Checkpoint (MaintainsStore Checkpoints)
 -- a call goes on after an answer that isn't its last
 pub runs_unless : (before after : Option Op) (answer : Answer) → RunsUntilLast before after answer → RunsUnlessLast before after answer
 runs_unless None after answer until last runs = absurd (runs refl)
-runs_unless (Some op) None answer until last runs = absurd (true_false (sym (until ∙ ap not last)))
+runs_unless (Some op) None answer until last runs = absurd (true≢false (sym (until ∙ ap not last)))
 runs_unless (Some op) (Some then_op) answer until last runs = λ e. cc
 
 -- a fault of a checkpoint ends a call
 forced_ends : (old new : Backing) (fault : Fault) → HasCause (causes_of_forced old new) fault → ends_call fault ≡ true
-forced_ends old new (Blocked block) h = absurd (true_false (sym h))
-forced_ends old new NoSession h = absurd (true_false (sym h))
+forced_ends old new (Blocked block) h = absurd (true≢false (sym h))
+forced_ends old new NoSession h = absurd (true≢false (sym h))
 forced_ends old new fault h = refl
 
 short_ends : (old new : Backing) (added : Option ℕ) (fault : Fault) → HasCause (causes_of_forced old new) fault → is_last (cut_short added fault) ≡ true
@@ -275,7 +275,7 @@ module _ {S : Type 0} (g : Ghosts S) (session : ℕ) {store mid : S} {slots : Li
           format = left.format ∙ ap (λ (st : State). st.format) same;
           frames = left.frames ∙ ap (λ (st : State). st.frames) same;
         };
-        blocked = λ block e. absurd (true_false (sym last ∙ ap is_last e));
+        blocked = λ block e. absurd (true≢false (sym last ∙ ap is_last e));
       }
 
 -- by which answers a call was given up

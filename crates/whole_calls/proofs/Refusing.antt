@@ -1,6 +1,6 @@
 -- Why a running call is refused: the causes of its events, told from the moment before the call to the moment
 -- after it.
-use Rattle.std.proofs.Common.{◌≡◌, ◌≢◌, ◌⊎◌, ℕ, zero, suc, ◌+◌, ◌<◌, ◌≤◌, Bool, true, false, not, ◌&&◌, ◌||◌, ◌==◌, nat_lt, nat_le, Option, Some, None, List, [], ◌∷◌, ◌++◌, length, slice_get, refl, sym, ap, subst, arith, inl, inr, ◌∙◌, if◌then◌else◌, unwrap_or, is_none}
+use Rattle.std.proofs.Common.{◌≡◌, ◌≢◌, ◌⊎◌, ℕ, zero, suc, ◌+◌, ◌<◌, ◌≤◌, Bool, true, false, true≢false, not, ◌&&◌, ◌||◌, ◌==◌, nat_lt, nat_le, Option, Some, None, List, [], ◌∷◌, ◌++◌, length, slice_get, refl, sym, ap, subst, arith, inl, inr, ◌∙◌, if◌then◌else◌, unwrap_or, is_none}
 use Rattle.latch_table.specs.Holdings.{Holding, Table, nothing_held, holding_of, holding_excludes, is_held_by_another}
 use Rattle.latch_table.specs.declared.mode.Mode.{Mode}
 use Rattle.latch_table.specs.declared.mode.Mode.TheVariants.{Shared, Exclusive, Cleanup}
@@ -18,7 +18,7 @@ use Rattle.page_delete.specs.Cleanups.{CleanupInvariant, causes_of_cleaning}
 use Rattle.page_delete.specs.Needs.{blocks_written}
 use Rattle.session_calls.proofs.Meeting.{other_row_is}
 use Rattle.whole_calls.proofs.Blocks.{LeavesAll, blocks_after, blocks_same}
-use Rattle.whole_calls.proofs.Tellings.{runs_in_slot, runs_has_call, one_runs, true_false}
+use Rattle.whole_calls.proofs.Tellings.{runs_in_slot, runs_has_call, one_runs}
 use Rattle.schedule.proofs.Causes.{insert_images_few, put_few, frames_few, written_few, frames_for_few, block_few}
 use Rattle.whole_calls.proofs.Imports.{or_cases, and_parts, ne_eqb, ltb-true, lt-ltb, ltb-false, leb-true, le-leb, eqb-true, eq-eqb, append-nil, Io, Stopped, Blocked, Exists, KeyTooLong, BadRow}
 use Rattle.whole_calls.proofs.Imports.{IndexFull, LogFull, NoFrame, VacuumRunning, NoSession, SessionBusy, BadSuper, BadVersion, LogDamaged, BadLimits, TooTall, DeviceTooSmall, KeyExists, Row}
@@ -73,7 +73,7 @@ nothing_causes BadVersion h = h
 nothing_causes LogDamaged h = h
 nothing_causes BadLimits h = h
 nothing_causes DeviceTooSmall h = h
-nothing_causes fault h = true_false (sym h)
+nothing_causes fault h = true≢false (sym h)
 
 forced_in : (old new : Backing) (at : Circumstances) → (has_failed old new ≡ true → at.device_failed ≡ true) → (old.stopped ≡ true → at.is_stopped ≡ true) → IsNarrower (causes_of_forced old new) at
 forced_in old new at fails stops Io h = fails h
@@ -109,7 +109,7 @@ idle_so from (slot ∷ slots) session idle =
     (idle_so (suc from) slots session (λ at apart. idle (suc at) (λ same. apart (omega (arith, same)))))
   where
     eqb_apart : (n m : ℕ) → (n == m) ≡ false → n ≡ m → ⊥
-    eqb_apart n m apart is = true_false (sym (eq-eqb n m is) ∙ apart)
+    eqb_apart n m apart is = true≢false (sym (eq-eqb n m is) ∙ apart)
 
 -- if no other session runs a call, their slots are empty
 pub others_idle : (slots : List (Option Op)) (session : ℕ) → another_runs slots session ≡ false → (other : ℕ) → other ≢ session → slot_of slots other ≡ None
@@ -300,7 +300,7 @@ module _ {S : Type 0} (g : Ghosts S) (start : Entry → Bool) (session least_roo
       few : (leaf : Option ℕ) → 1 + count_apart (pins_of leaf) ≤ 2
       few None = omega arith
       few (Some b) = omega arith
-  scanning op is f LogFull h = absurd (true_false (sym h))
+  scanning op is f LogFull h = absurd (true≢false (sym h))
   scanning op is f fault h = h
 
   -- ... or the call has no room to count more
@@ -509,9 +509,9 @@ pub called_wider : {S : Type 0} (g : Ghosts S) (session : ℕ) (request : Reques
     → at.no_such_session ≡ false → at.session_has_a_call ≡ false
     → IsNarrower at (causes_of_called g session request old at)
 called_wider g session request old at vacuums none has_none Stopped h = or_left at.is_stopped (is_at_end (g.state old.store).begun) h
-called_wider g session request old at vacuums none has_none VacuumRunning h = absurd (true_false (sym h ∙ vacuums))
-called_wider g session request old at vacuums none has_none NoSession h = absurd (true_false (sym h ∙ none))
-called_wider g session request old at vacuums none has_none SessionBusy h = absurd (true_false (sym h ∙ has_none))
+called_wider g session request old at vacuums none has_none VacuumRunning h = absurd (true≢false (sym h ∙ vacuums))
+called_wider g session request old at vacuums none has_none NoSession h = absurd (true≢false (sym h ∙ none))
+called_wider g session request old at vacuums none has_none SessionBusy h = absurd (true≢false (sym h ∙ has_none))
 called_wider g session request old at vacuums none has_none fault h = h
 
 -- the call's end leaves of all this what was

@@ -1,5 +1,5 @@
 -- What a bulk delete removes, as one list of entries, each once; and how many entries there are at most.
-use Rattle.std.proofs.Common.{◌≡◌, ℕ, suc, zero, ◌+◌, ◌*◌, ◌≤◌, Bool, true, false, not, ◌&&◌, ◌||◌, Option, Some, None, List, [], ◌∷◌, ◌++◌, length, slice_get, take, refl, sym, ap, subst, arith, inl, inr, ◌∙◌, length-append, append_assoc, if◌then◌else◌, unwrap_or}
+use Rattle.std.proofs.Common.{◌≡◌, ℕ, suc, zero, ◌+◌, ◌*◌, ◌≤◌, Bool, true, false, true≢false, not, ◌&&◌, ◌||◌, Option, Some, None, List, [], ◌∷◌, ◌++◌, length, slice_get, take, refl, sym, ap, subst, arith, inl, inr, ◌∙◌, length-append, append_assoc, if◌then◌else◌, unwrap_or}
 use Rattle.std.specs.Cmp.{IsEquivalence}
 use Rattle.std.specs.List.{AllByRecursion, IsDistinct}
 use Rattle.std.specs.Set.{is_member}
@@ -16,7 +16,6 @@ use Rattle.whole_calls.proofs.Imports.{or_cases, eq-eqb, append-nil, take_at, Ro
 use Rattle.whole_calls.proofs.Imports.{get_append_some, get_within, same_some, Effect, Add, Remove, Shape, Action, contents_after, AskBulkDelete, Call, removed_count, removed_by, MayAct}
 use Rattle.whole_calls.proofs.Imports.{ActionsAreOwned, Entry, Format, Page, removed_of, acts_by}
 use Rattle.whole_calls.proofs.Refusing.{or_left, or_right, or_none}
-use Rattle.whole_calls.proofs.Tellings.{true_false}
 
 -- entries are one or apart
 
@@ -124,7 +123,7 @@ module _ (start : Entry → Bool) (number : ℕ) where
   -- all were there
   pub all_were : (history : List Action) (effects : List Effect) → RemoveThere start number history effects → (e : Entry)
       → is_among (removed_of effects) e ≡ true → contents_after start history e ≡ true
-  all_were history [] apt e h = absurd (true_false (sym h))
+  all_were history [] apt e h = absurd (true≢false (sym h))
   all_were history (Remove es ∷ effects) apt e h = elim (or_cases (is_among es e) (is_among (removed_of effects) e) (sym (is_among-append es (removed_of effects) e) ∙ h)) [
     | inl here ↦ apt.0.1 e here
     | inr later ↦ and_first (contents_after start history e) (not (is_among es e))
@@ -147,7 +146,7 @@ module _ (start : Entry → Bool) (number : ℕ) where
       gone e here true is = absurd (
           let there = sym (after_remove start history number es e) ∙ all_were (history ++ act_of number (Remove es) ∷ []) effects apt.1 e is in
           let no_more : (contents_after start history e && not (is_among es e)) ≡ false = ap (λ (b : Bool). contents_after start history e && not b) here ∙ none (contents_after start history e) in
-          true_false (sym there ∙ no_more))
+          true≢false (sym there ∙ no_more))
         where
           none : (a : Bool) → (a && not true) ≡ false
           none true = refl

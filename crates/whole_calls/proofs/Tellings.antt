@@ -1,5 +1,5 @@
 -- What each event of a session tells of its running call.
-use Rattle.std.proofs.Common.{◌≡◌, ◌≢◌, ℕ, ◌<◌, Bool, true, false, Option, Some, None, List, [], ◌∷◌, ◌++◌, length, slice_get, slice_set, refl, sym, ap, subst, arith, inl, inr, ◌∙◌, unwrap_or}
+use Rattle.std.proofs.Common.{◌≡◌, ◌≢◌, ℕ, ◌<◌, Bool, true, false, true≢false, Option, Some, None, List, [], ◌∷◌, ◌++◌, length, slice_get, slice_set, refl, sym, ap, subst, arith, inl, inr, ◌∙◌, unwrap_or}
 use Rattle.whole_calls.proofs.Gone.{silent_then}
 use Rattle.whole_calls.proofs.Imports.{append-nil, Exists, KeyExists, causes_of_forced, Inserts, Scans, Bulks, Cleanups, Row, Range, call_kind, ToInsert, ToScan, ToBulk, ToCleanup, get_some}
 use Rattle.whole_calls.proofs.Imports.{get_within, get_append_new, get_append_some, same_some, Effect, Action, contents_after, Ask, AskInsert, AskScan, AskBulkDelete, Entry, asked_by, op_before}
@@ -8,9 +8,6 @@ use Rattle.whole_calls.proofs.Imports.{AnswersStep, AnswersNext, AnswersEnd, Ans
 use Rattle.whole_calls.proofs.Imports.{slot_of, SlotRuns, SlotMatches, has_call, one_vacuums, Move, Steps, Takes, Upkeep, MaintainsStore, BeginsCall, MovesCall, GivesUp, CallMoves, CallBegins}
 use Rattle.whole_calls.proofs.Imports.{Stays, MovesOn, MayBegin, causes_of_begun_at, AnswersMove, IsSameHistory, MayAnswer, MayComeTo, IsOwnEffect, CallAnswers, StepMeans, SessionStepMeans}
 use Rattle.whole_calls.proofs.Imports.{HasNone, HasBegun, begun_of, BeginMeans, EndMeans, with_one_call, first_call, NextMeans, running_of}
-
-pub true_false : true ≡ false → ⊥
-true_false h = cc
 
 module _ {S : Type 0} (g : Ghosts S) (start : Entry → Bool) (now : Moment S) (fits : Fits g start now) (session : ℕ) where
   -- a session with a running call has it in its slot
@@ -181,13 +178,13 @@ not_of_entry at entry key fault cause = (
 begin_not_exists : {S : Type 0} (g : Ghosts S) (store : S) (vacuums : Bool) (sets : DeadSets) (request : Request) (o : Option (Option Op))
     (fault : Fault) → HasCause (causes_of_begun_at g store vacuums sets request o) fault → IsNotOfEntry fault
 begin_not_exists g store vacuums sets request None fault cause =
-    not_of_entry (causes_of_begun_at g store vacuums sets request None) (λ h. true_false (sym h)) (λ row h. true_false (sym h)) fault cause
+    not_of_entry (causes_of_begun_at g store vacuums sets request None) (λ h. true≢false (sym h)) (λ row h. true≢false (sym h)) fault cause
 begin_not_exists g store vacuums sets request (Some slot) fault cause =
-    not_of_entry (causes_of_begun_at g store vacuums sets request (Some slot)) (λ h. true_false (sym h)) (λ row h. true_false (sym h)) fault cause
+    not_of_entry (causes_of_begun_at g store vacuums sets request (Some slot)) (λ h. true≢false (sym h)) (λ row h. true≢false (sym h)) fault cause
 
 -- nor is a checkpoint
 pub kept_not_exists : (old new : Backing) (fault : Fault) → HasCause (causes_of_forced old new) fault → IsNotOfEntry fault
-kept_not_exists old new fault cause = not_of_entry (causes_of_forced old new) (λ h. true_false (sym h)) (λ row h. true_false (sym h)) fault cause
+kept_not_exists old new fault cause = not_of_entry (causes_of_forced old new) (λ h. true≢false (sym h)) (λ row h. true≢false (sym h)) fault cause
 
 -- the circumstances of a beginning
 abbrev begins_at : {S : Type 0} → Ghosts S → ℕ → Request → Moment S → Circumstances
@@ -246,7 +243,7 @@ ends_tells {g = g} {start} {x} {y} session answer fits does = of (has_call x.slo
     of false is stays = record {
       history_is = stays.still.history_is;
       calls_is = λ free. stays.still.calls_is;
-      ended_is = λ number call runs. absurd (true_false (sym (runs_has_call g start x fits session number call runs) ∙ is));
+      ended_is = λ number call runs. absurd (true≢false (sym (runs_has_call g start x fits session number call runs) ∙ is));
     }
 
 pub set_new : {X : Type 0} (xs : List X) (x y : X) → slice_set (xs ++ x ∷ []) (length xs) y ≡ xs ++ y ∷ []

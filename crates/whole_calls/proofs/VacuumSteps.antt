@@ -1,5 +1,5 @@
 -- What a bulk delete or a cleanup tells that is run to its end.
-use Rattle.std.proofs.Common.{◌≡◌, ◌≢◌, ℕ, suc, Bool, true, false, Option, Some, Ok, List, [], ◌∷◌, ◌++◌, length, refl, sym, ap, subst, inl, inr, ◌∙◌, IfOk, IfErr}
+use Rattle.std.proofs.Common.{◌≡◌, ◌≢◌, ℕ, suc, Bool, true, false, true≢false, Option, Some, Ok, List, [], ◌∷◌, ◌++◌, length, refl, sym, ap, subst, inl, inr, ◌∙◌, IfOk, IfErr}
 use Rattle.whole_calls.proofs.Imports.{append-nil, VacuumStats, ToInsert, ToScan, Circumstances, HasCause, Effect, Add, Action, Vacuumed, Call, Fault, Entry, State, Ghosts, DeadSets, asked_by}
 use Rattle.whole_calls.proofs.Imports.{asks_vacuum, IsCaused, MayDo, ended, Answer, Going, Finished, Refused, Request, StoreAndSlots, Moment, here_at, IsOutcomeOf, CallIsRun, CallIsRunFrom}
 use Rattle.whole_calls.proofs.Imports.{IsMadeOf, Answered, ComesTo, causes_of_gone, causes_of_asked, causes_of_called, RequestIsRun, StatsCountFor, Followed, of_bulk_delete, FollowsFrom}
@@ -10,12 +10,12 @@ use Rattle.whole_calls.proofs.Gone.{whole_told}
 use Rattle.whole_calls.proofs.Inserting.{ended_none}
 use Rattle.whole_calls.proofs.Made.{made_told}
 use Rattle.whole_calls.proofs.Refusing.{cause_wider, begun_called, called_wider, stopped_before}
-use Rattle.whole_calls.proofs.Tellings.{true_false, set_new, came_may}
+use Rattle.whole_calls.proofs.Tellings.{set_new, came_may}
 
 -- a bulk delete and a cleanup add nothing, so what they do leaves their call as it was
 adds_nothing : (sets : DeadSets) (request : Request) → asks_vacuum request ≡ true → (added : Option ℕ) (e : Entry) → MayDo (asked_by sets request) added (Add e) → ⊥
-adds_nothing sets (ToInsert x) vacuums added e h = true_false (sym vacuums)
-adds_nothing sets (ToScan range) vacuums added e h = true_false (sym vacuums)
+adds_nothing sets (ToInsert x) vacuums added e h = true≢false (sym vacuums)
+adds_nothing sets (ToScan range) vacuums added e h = true≢false (sym vacuums)
 adds_nothing sets request vacuums added e h = h
 
 as_it_was : (call : Call) (count : ℕ) (effects : List Effect) → ((added : Option ℕ) (e : Entry) → MayDo call.ask added (Add e) → ⊥)
@@ -31,8 +31,8 @@ IsVacuumAnswer (Refused fault) = Unit {0}
 IsVacuumAnswer answer = ⊥
 
 vacuum_may : (sets : DeadSets) (request : Request) → asks_vacuum request ≡ true → (answer : Answer) → answer ≢ Going → MayAnswer (asked_by sets request) answer → IsVacuumAnswer answer
-vacuum_may sets (ToInsert x) vacuums answer over h = absurd (true_false (sym vacuums))
-vacuum_may sets (ToScan range) vacuums answer over h = absurd (true_false (sym vacuums))
+vacuum_may sets (ToInsert x) vacuums answer over h = absurd (true≢false (sym vacuums))
+vacuum_may sets (ToScan range) vacuums answer over h = absurd (true≢false (sym vacuums))
 vacuum_may sets request vacuums (Finished stats) over h = tt
 vacuum_may sets request vacuums (Refused fault) over h = tt
 vacuum_may sets request vacuums Going over h = absurd (over refl)
@@ -156,6 +156,6 @@ module _ {S : Type 0} {g : Ghosts S} {session least_room : ℕ} (request : Reque
       gone_of : (req : Request) → asks_vacuum req ≡ true
           → IsCaused (causes_of_asked g session least_room (Some (g.state x.store).begun) false (asked_by x.sets req) (here_at x) z.store) answer
           → IsCaused (causes_of_gone g session least_room false (here_at x) z.store) answer
-      gone_of (ToInsert e) vac h = absurd (true_false (sym vac))
-      gone_of (ToScan range) vac h = absurd (true_false (sym vac))
+      gone_of (ToInsert e) vac h = absurd (true≢false (sym vac))
+      gone_of (ToScan range) vac h = absurd (true≢false (sym vac))
       gone_of req vac h = h
