@@ -1,9 +1,9 @@
-"""Two plots as SVG files, of what bench/run measured: lines over a logarithmic axis each."""
+"""Plots as SVG files, of what bench/run measured: lines over a logarithmic axis each."""
 import html
 import math
 
 WIDTH, HEIGHT, LEFT, RIGHT, TOP, BOTTOM = 640, 360, 64, 120, 36, 48
-COLOURS = ("#444444", "#b00020", "#2a5db0", "#2e7d32", "#8e5bd0", "#b26a00")
+COLOURS = ("#444444", "#b00020", "#2a5db0", "#2e7d32", "#8e5bd0", "#b26a00", "#00838f", "#c2185b", "#7cb342")
 STYLE = "text { font: 12px sans-serif; } .grid { stroke: #ddd; } .line { fill: none; stroke-width: 2; }"
 
 
@@ -44,6 +44,8 @@ def plot(title, across, up, lines):
         out.append(f'<text x="{LEFT - 6}" y="{ys.at(y) + 4}" text-anchor="end">{number(y)}</text>')
     out.append(f'<text x="{(LEFT + WIDTH - RIGHT) / 2}" y="{HEIGHT - 10}" text-anchor="middle">{html.escape(across)}</text>')
     out.append(f'<text x="12" y="{TOP - 6}">{html.escape(up)}</text>')
+    if len(lines) > len(COLOURS):
+        raise ValueError(f"{len(lines)} lines, and {len(COLOURS)} colours")
     names = sorted(((ys.at(some[-1][1]), name, colour, some) for (name, some), colour in zip(lines, COLOURS)), key=lambda line: line[0])
     last = TOP - 14
     for end, name, colour, some in names:
