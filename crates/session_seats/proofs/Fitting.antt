@@ -6,7 +6,6 @@ use mathlib.Core.Option.{some, some-ne-none, some-injective}
 use lib.ListN.{get_elem?}
 use Rattle.atomic_table.specs.Table.{State, Step, keeps as still, Allows, Splits, Joins, step}
 use Rattle.atomic_table.proofs.Lists.{at_set, at_snoc}
-use Rattle.index_model.specs.Row.{Row}
 use Rattle.session_seats.specs.declared.call.CompletedCall.{CompletedCall}
 use Rattle.session_seats.specs.declared.call.Notice.{Notice}
 use Rattle.session_seats.specs.declared.call.PendingCall.{PendingCall}
@@ -183,9 +182,9 @@ some_same : (a b : Notice) → some a ≡ some b → a ≡ b
 some_same a b e = some-injective _ _ e
 
 module _ (slots pass : ℕ) (v : SessionView) (c : List (ℕ × Notice)) (f : ℕ → ℕ) (i a b : ℕ) (said : Notice) (kept : v.keeps ≡ true) (sits : v.sits ≡ true) where
-  pub begins_allows : (rows : List Row) → Allows CellRule slots pass (v, c) i f (HasBegunCall rows (step slots i a b (some said)) (v, c))
-  begins_allows rows s h len at small =
-      (when_begun rows v said, still, tt, changes s.views h pass v at kept sits _, (λ notice e. ap (λ (n : Notice). (when_begun rows v n, c)) (some_same said notice e)))
+  pub begins_allows : Allows CellRule slots pass (v, c) i f (HasBegunCall (step slots i a b (some said)) (v, c))
+  begins_allows s h len at small =
+      (when_begun v said, still, tt, changes s.views h pass v at kept sits _, (λ notice e. ap (λ (n : Notice). (when_begun v n, c)) (some_same said notice e)))
 
   pub gives_allows : Allows CellRule slots pass (v, c) i f (HasGivenEntry (step slots i a b (some said)) (v, c))
   gives_allows s h len at small =

@@ -62,8 +62,8 @@ pub record IsReceiptFor (records : List Record) (job : ℕ) (receipt : Receipt) 
 
 -- ... and each has its receipt
 pub record IsFinished {S T : Type 0} (g : Ghosts S) (rows : SetGhosts T) (jobs : List Job) (workers : ℕ) (world : World S T) (done : Finished S T) : Type 0 where
-  pub kept : ∥ KeepsAll g (handed_of g rows world) (WorldFits g rows world) (WorldKeeps g rows world) (inside rows done.world) done.start [] (completed_calls (inside rows world).sets done.history.items) ∥₁
-  pub acted : ∥ HasActed g (handed_of g rows world) (inside rows done.world) [] (completed_calls (inside rows world).sets done.history.items) ∥₁
+  pub kept : ∥ KeepsAll g (WorldFits g rows world) (WorldKeeps g rows world) (inside rows done.world) done.start [] (completed_calls done.history.items) ∥₁
+  pub acted : ∥ HasActed g (handed_of g rows world) (inside rows done.world) [] (completed_calls done.history.items) ∥₁
   pub booked : AreBooked jobs [] done.history.items
   pub comes : ∥ ComesOf g (handed_of g rows world) done.start (inside rows done.world) ∥₁
   pub steps : ∥ Continues g.follows world.store done.world.store ∥₁

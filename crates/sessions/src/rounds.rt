@@ -61,7 +61,7 @@ fn begin_open_round(counts: &mut Counts) -> bool {
 /// The worker for which the others waited leads the round: it commits first, and forces what all have logged,
 /// while they sleep. Then they commit, and find all of it durable. No insert begins before the last of them
 /// has, so that none has to force what is logged after the first. If nobody commits for whom the others
-/// waited, all commit at once, and one forces.
+/// waited, all commit at once, and one forces. The insert that begins such a round goes on beside it.
 ///
 /// A worker that waits here has no call, no latch and no pin, and one that is at work waits for no commit but
 /// those of a round that has begun. A commit doesn't wait for a scan, a bulk delete, a cleanup or a

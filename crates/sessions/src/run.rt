@@ -305,14 +305,12 @@ pub fn run_jobs<
         (IsWithinLimits (length world.calls.slots.items) jobs.now workers) }
     ensures free { OnOk result (AreIdle world.calls.slots.items) }
     ensures kept { IfOk result (λ done. ∥ KeepsAll S.PageStore
-        (handed_of S.PageStore T.DeadRows world)
         (WorldFits S.PageStore T.DeadRows world) (WorldKeeps S.PageStore T.DeadRows world)
-        (inside T.DeadRows done.world) done.start []
-        (completed_calls (inside T.DeadRows world).sets done.history.items) ∥₁) }
+        (inside T.DeadRows done.world) done.start [] (completed_calls done.history.items) ∥₁) }
     // What was done for each record, whatever the pages are.
     ensures acted { IfOk result (λ done. ∥ HasActed S.PageStore
         (handed_of S.PageStore T.DeadRows world) (inside T.DeadRows done.world) []
-        (completed_calls (inside T.DeadRows world).sets done.history.items) ∥₁) }
+        (completed_calls done.history.items) ∥₁) }
     // Each record asks what the job of its number does. A scan was cut only if its room was full.
     ensures booked { IfOk result (λ done. AreBooked jobs.now [] done.history.items) }
     // What its store followed it follows still, so that the law of crashes holds over the run.

@@ -22,5 +22,4 @@ pub use close::ServedIndex;
 pub use index::SharedIndex;
 pub use rounds::CommitRounds;
 pub use serving::{NotServed, serve};
-pub use session::{RowsDeleted, SharedSession};
-pub use world::NotPut;
+pub use session::SharedSession;

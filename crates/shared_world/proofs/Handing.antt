@@ -1,9 +1,7 @@
 -- What is known of a world as it was handed in, after an event.
-use Rattle.std.proofs.Common.{◌≡◌, ◌∙◌, ℕ, Bool, true, false, List, map, Option, length, sym, ap, subst}
+use Rattle.std.proofs.Common.{◌≡◌, ◌∙◌, ℕ, List, map, Option, length, ap, subst}
 use Rattle.page_action.proofs.Laters.{later_trans}
 use Rattle.schedule.proofs.Keeping.{Laws}
-use Rattle.session_calls.specs.TheoremCalls.{DeadSets}
-use Rattle.shared_world.specs.Handed.{SetsGo}
 use Rattle.shared_world.proofs.Imports.{SetGhosts, Continues, State, Backing, IsLater, Ghosts, StoreAndSlots, Op, SameSessions, inside, World, Handed, IsAsHanded, ComesOf, StillFollows}
 
 -- an event has made this world of that one: its sessions and sets are the same, its device is a later one,
@@ -29,21 +27,16 @@ pub comes_on : {S : Type 0} (g : Ghosts S) (first : Handed) (start : ℕ) (w v :
 comes_on g first start w v next c = record {
   start_is = c.start_is;
   sessions_are = next.sessions ∙ c.sessions_are;
-  sets_are = subst (SetsGo first.may_put first.sets) (sym next.sets) c.sets_are;
+  sets_are = next.sets ∙ c.sets_are;
   later = later_trans first.backing (g.backing w.store) (g.backing v.store) c.later next.later;
 }
-
--- the same sets
-pub sets_stay : (may : Bool) (old new : DeadSets) → new ≡ old → SetsGo may old new
-sets_stay false old new e = e
-sets_stay true old new e = ap (λ (l : DeadSets). length l) e
 
 -- a world as it was handed in, so many actions being there
 pub comes_first : {S : Type 0} (g : Ghosts S) (laws : Laws g) (handed : Handed) (start : ℕ) (w : StoreAndSlots S) → start ≡ (g.state w.store).acts → IsAsHanded g handed w → ComesOf g handed start w
 comes_first g laws handed start w is was = record {
   start_is = is ∙ ap (λ (st : State). st.acts) was.state_is;
   sessions_are = ap (λ (l : List (Option Op)). length l) was.slots_are;
-  sets_are = sets_stay handed.may_put handed.sets w.sets was.sets_are;
+  sets_are = was.sets_are;
   later = subst (λ (b : Backing). IsLater b (g.backing w.store)) was.backing_is (laws.follows_later w.store w.store (laws.follows_same w.store));
 }
 

@@ -8,7 +8,6 @@ pub mod Happening
 pub mod Stepping
 pub mod Asking
 pub mod Owning
-pub mod Putting
 pub mod Acting
 pub mod Transiting
 pub mod Beginning

@@ -1,5 +1,5 @@
 -- What is known of a world as it was handed in, and holds of it on.
-use Rattle.std.specs.Prelude.{◌≡◌, ℕ, Bool, true, false, List, [], Option, length}
+use Rattle.std.specs.Prelude.{◌≡◌, ℕ, true, false, List, [], Option, length}
 use Rattle.index_model.specs.declared.layout.Layout.TheVariants.{One}
 use Rattle.index_model.specs.declared.dead_rows.DeadRows.{Ghosts as SetGhosts}
 use Rattle.page_action.specs.States.{State, Backing, IsLater}
@@ -11,13 +11,12 @@ use Rattle.world.specs.Worlds.{inside}
 use Rattle.world.specs.declared.world.World.{World}
 
 -- all that is seen of its store: pages, calls and holdings, and the log and the device; what its sessions
--- ran, and the sets of dead rows; and whether others may be put in their places
+-- ran, and the sets of dead rows
 pub record Handed : Type 0 where
   pub state : State
   pub backing : Backing
   pub slots : List (Option Op)
   pub sets : DeadSets
-  pub may_put : Bool
 
 -- if none is
 abbrev pub nothing_handed : Handed
@@ -37,7 +36,6 @@ nothing_handed = record {
   backing = record { durable = 0; room = 0; promised = 0; stopped = false; honest = true; failures = 0; changed = []; waiting = [] };
   slots = [];
   sets = [];
-  may_put = false;
 }
 
 -- a world as it was handed in
@@ -47,33 +45,22 @@ pub record IsAsHanded {S : Type 0} (g : Ghosts S) (handed : Handed) (first : Sto
   pub slots_are : first.slots ≡ handed.slots
   pub sets_are : first.sets ≡ handed.sets
 
--- the sets have become these: the same, unless others may be put; then as many
-abbrev pub SetsGo : Bool → DeadSets → DeadSets → Type 0
-SetsGo false old new = new ≡ old
-SetsGo true old new = length new ≡ length old
-
--- the world handed in has become this one: its sessions are the same, so are its sets, unless others may be
--- put, and its device is a later one
+-- the world handed in has become this one: its sessions and sets are the same, and its device is a later one
 pub record ComesOf {S : Type 0} (g : Ghosts S) (handed : Handed) (start : ℕ) (now : StoreAndSlots S) : Type 0 where
   pub start_is : start ≡ handed.state.acts
   pub sessions_are : length now.slots ≡ length handed.slots
-  pub sets_are : SetsGo handed.may_put handed.sets now.sets
+  pub sets_are : now.sets ≡ handed.sets
   pub later : IsLater handed.backing (g.backing now.store)
 
 -- a store follows each of these, which that of the world followed as it was handed in
 abbrev pub StillFollows : {S : Type 0} → Ghosts S → (S → Type 0) → S → Type 0
 StillFollows {S} g followed now = (first : S) → followed first → g.follows first now
 
--- what is known of a world that is handed in now, whose sets stay
+-- what is known of a world that is handed in now
 abbrev pub handed_of : {S T : Type 0} → Ghosts S → SetGhosts T → World S T → Handed
 handed_of g rows world = record {
   state = g.state world.store;
   backing = g.backing world.store;
   slots = world.calls.slots.items;
   sets = (inside rows world).sets;
-  may_put = false;
 }
-
--- ... or whose sessions may put others
-abbrev pub handed_to_sessions : {S T : Type 0} → Ghosts S → SetGhosts T → World S T → Handed
-handed_to_sessions g rows world = record (handed_of g rows world) { may_put = true }

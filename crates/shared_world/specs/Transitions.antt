@@ -1,9 +1,7 @@
--- What is done under the lock, event by event: transitions, each beginning where the one before ended, but
--- for sets that were put in between.
-use Rattle.std.specs.Prelude.{◌≡◌, ◌==◌, ℕ, Bool, true, false, if◌then◌else◌, List, [], ◌∷◌, ◌++◌, length}
+-- What is done under the lock, event by event: transitions, each beginning where the one before ended.
+use Rattle.std.specs.Prelude.{◌≡◌, ◌==◌, ℕ, Bool, false, if◌then◌else◌, List, [], ◌∷◌, ◌++◌}
 use Rattle.index_model.specs.declared.entry.Entry.{Entry}
 use Rattle.page_action.specs.declared.page_store.PageStore.{Ghosts}
-use Rattle.session_calls.specs.TheoremCalls.{DeadSets}
 use Rattle.session_calls.specs.declared.answer.Answer.{Answer}
 use Rattle.schedule.specs.Making.{EventEffect}
 use Rattle.schedule.specs.TheoremKinds.{kind_of}
@@ -23,16 +21,11 @@ pub record Transition (S : Type 0) : Type 0 where
   pub before : LockMoment S
   pub after : LockMoment S
 
--- nothing is done from one moment to another, but that sets may have been put in the places of the sets
-abbrev pub StaysUntil : {S : Type 0} → Bool → LockMoment S → LockMoment S → Type 0
-StaysUntil false old new = new ≡ old
-StaysUntil true old new = (sets : DeadSets) × (length sets ≡ length old.here.sets) × (new ≡ record old { here = record old.here { sets = sets } })
-
--- they lead from one moment to another: each begins where the one before ended, but for sets that may have
--- been put, and is what its event makes with its answer
-abbrev pub IsPath : {S : Type 0} → Ghosts S → Bool → LockMoment S → List (Transition S) → LockMoment S → Type 0
-IsPath g may_put first [] last = StaysUntil may_put first last
-IsPath g may_put first (t ∷ ts) last = StaysUntil may_put first t.before × EventEffect g (kind_of t.event) t.answer t.before.here t.after.here × IsPath g may_put t.after ts last
+-- they lead from one moment to another: each begins where the one before ended, and is what its event makes
+-- with its answer
+abbrev pub IsPath : {S : Type 0} → Ghosts S → LockMoment S → List (Transition S) → LockMoment S → Type 0
+IsPath g first [] last = last ≡ first
+IsPath g first (t ∷ ts) last = (t.before ≡ first) × EventEffect g (kind_of t.event) t.answer t.before.here t.after.here × IsPath g t.after ts last
 
 -- whose a transition is: that of the call at this place of the log, or of the one that this session runs now
 pub data Owner : Type 0 where

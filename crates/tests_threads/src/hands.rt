@@ -1,7 +1,7 @@
 //! Workers whose events are done one by one, in an order that is picked: what `run_jobs` does with threads,
 //! done by hand.
 
-ghost use Rattle.std.specs.Prelude.{◌≡◌, ◌≤◌, ◌<◌, ◌+◌, ◌↔◌, [], ℕ, Bool, List, None, Some, true, length, slice_get, vec_len, vec_capacity, false};
+ghost use Rattle.std.specs.Prelude.{◌≡◌, ◌≤◌, ◌<◌, ◌+◌, ◌↔◌, [], ℕ, Bool, List, None, Some, true, length, slice_get, vec_len, vec_capacity};
 ghost use Rattle.index_model.specs.Actions.{Action};
 ghost use Rattle.index_model.specs.Calls.{Call};
 ghost use Rattle.index_model.specs.declared.entry.Entry.{Entry as OneEntry};
@@ -306,7 +306,6 @@ fn seated<S: PageStore, T: DeadRows + Drop, J: JobsOn<S>>(
     requires all { blank.parts ≡ 65 }
     requires workers { J.workers ≡ workers }
     requires handed { IsAsHanded S.PageStore J.handed (inside T.DeadRows world) }
-    requires stays { J.handed.may_put ≡ false }
     requires stood { Stands S.PageStore J.stood J.kept_then J.followed (inside T.DeadRows world) }
     requires knows { known_by desk.keeper ≡ keeper_of [] [] }
     requires none_known { view_of sessions.keeper ≡ keeper_with [] [] }

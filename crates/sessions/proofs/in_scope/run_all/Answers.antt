@@ -21,11 +21,8 @@ scoped-requires g c =
                   (
                     asks.handed,
                     (
-                      asks.stays,
-                      (
-                        asks.rests,
-                        (search rules, search rules, search rules, search rules, search rules, search rules, search rules, search rules, search rules),
-                      ),
+                      asks.rests,
+                      (search rules, search rules, search rules, search rules, search rules, search rules, search rules, search rules, search rules),
                     ),
                   ),
                 ),
