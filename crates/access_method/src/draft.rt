@@ -132,9 +132,9 @@ pub(crate) fn make_draft<R: Files<File = File>>(
     len: u64,
     filled: u64,
 ) -> io::Result<FileDevice<Zeros>>
-    ensures held { IfOk result (λ d. after_calls (replicate d.len 0) d.events.list
+    ensures held { IfOk result (λ d. after_calls (replicate d.len 0) d.events.value
         ≡ first (replicate len 0)) }
-    ensures honest { IfOk result (λ d. are_right (replicate d.len 0) d.events.list ≡ true) }
+    ensures honest { IfOk result (λ d. are_right (replicate d.len 0) d.events.value ≡ true) }
 {
     let file = take_draft(rt, draft)?;
     // It keeps the lock until the name is gone, if the making is refused.

@@ -1,7 +1,6 @@
 pub mod Imports
 pub mod Blocks
 pub mod Kept
-pub mod Steps
 pub mod ReadOn
 pub mod Judged
 pub mod KeysSeen

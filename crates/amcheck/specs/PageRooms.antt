@@ -7,4 +7,4 @@ use Rattle.amcheck.specs.declared.page_room.PageRoom.{PageRoom}
 pub record HasPageRoom (room : PageRoom) (used : ℕ) : Type 0 where
   pub sketches : used ≤ vec_capacity room.sketches
   pub whole : used ≤ vec_capacity room.whole
-  pub kept : HoldSketches room.list.pages room.whole.items room.sketches.items
+  pub kept : HoldSketches room.list.value room.whole.items room.sketches.items

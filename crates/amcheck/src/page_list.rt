@@ -1,39 +1,29 @@
 //! The pages that were read, as a list that only clauses read.
-ghost use Rattle.std.specs.Prelude.{◌≡◌, ◌++◌, List, []};
-ghost use Rattle.std.specs.Borrow.{ftrue};
-ghost use Rattle.page_codec.specs.declared.page.Page.{Page};
 
+ghost use Rattle.std.specs.Prelude.{◌++◌, []};
+
+use index_model::{Noted, Reckons};
 use page_codec::Page;
-use std::marker::{Model, PhantomData};
+use std::marker::Model;
 
-/// The pages that were read, in order. It takes no bytes.
-#[derive(Drop)]
-pub(crate) struct PageList {
-    marker: PhantomData<u8>,
-    pub ghost pages: { List Page },
-}
+/// A list of pages. None is made: it is the type of one that is noted.
+pub(crate) struct PageList {}
 
 impl Model for PageList {
-    ghost also_owns = { λ _. ftrue };
+    ghost use Rattle.std.specs.Prelude.{List, []};
+    ghost use Rattle.page_codec.specs.declared.page.Page.{Page};
+
+    ghost Value = { List Page };
+
+    ghost view = { λ _. [] };
 }
 
-// It owns nothing.
-unsafe impl Send for PageList {}
+/// No page.
+impl Reckons<()> for PageList {
+    ghost reckoned = { λ _. [] };
+}
 
-unsafe impl Sync for PageList {}
-
-impl PageList {
-    /// No page.
-    pub fn new() -> PageList
-        ensures { result.pages ≡ [] }
-    {
-        PageList {
-            marker: PhantomData,
-        }
-    }
-
-    /// These pages too.
-    pub fn note(&mut self, _pages: &[Page])
-        ensures { self.new.pages ≡ self.old.pages ++ _pages.now }
-    {}
+/// These pages too.
+impl<'a> Reckons<(&'a Noted<PageList>, &'a [Page])> for PageList {
+    ghost reckoned = { λ x. x.0.now.value ++ x.1.now };
 }

@@ -8,7 +8,7 @@ ghost use Rattle.amcheck.specs.Sketches.{HasGrown, links_at};
 
 use crate::page_list::PageList;
 use crate::sketches::{Sketch, sketch_of};
-use index_model::Fault;
+use index_model::{Fault, Noted, reckon};
 use page_codec::Page;
 use std::alloc::Global;
 use std::slice;
@@ -21,7 +21,7 @@ pub(crate) struct PageRoom {
     pub(crate) sketches: Vec<Sketch>,
     /// The pages that have downlinks. Their room isn't touched before.
     pub(crate) whole: Vec<Page>,
-    pub(crate) list: PageList,
+    pub(crate) list: Noted<PageList>,
 }
 
 /// Keeps a page after these, if it has downlinks, and answers where it is kept.
@@ -45,7 +45,7 @@ impl PageRoom {
     /// The room for `used` pages. Refused with `NoMemory` (1).
     pub(crate) fn new(alloc: Global, used: u32) -> Result<PageRoom, Fault>
         ensures made { IfOk result (λ room. HasPageRoom room used) }
-        ensures none { IfOk result (λ room. room.list.pages ≡ []) }
+        ensures none { IfOk result (λ room. room.list.value ≡ []) }
         ensures fault { IfErr result (λ f. f ≡ Fault.NoMemory) }
     {
         let Ok(sketches) = Vec::with_capacity(alloc, used as usize) else {
@@ -57,20 +57,20 @@ impl PageRoom {
         Ok(PageRoom {
             sketches,
             whole,
-            list: PageList::new(),
+            list: reckon(&()),
         })
     }
 
     /// Keeps one page more, if there is room for `used` pages.
     pub(crate) fn add(&mut self, used: u32, page: &Page)
         requires room { HasPageRoom self.old used }
-        requires more { length self.old.list.pages < used }
+        requires more { length self.old.list.value < used }
         requires page { IsPage page.now }
         ensures room { HasPageRoom self.new used }
-        ensures list { self.new.list.pages ≡ self.old.list.pages ++ page.now ∷ [] }
+        ensures list { self.new.list.value ≡ self.old.list.value ++ page.now ∷ [] }
     {
         let place = keep_links(&mut self.whole, page);
         self.sketches.push_reserved(sketch_of(page, place));
-        self.list.note(slice::from_ref(page));
+        self.list = reckon(&(&self.list, slice::from_ref(page)));
     }
 }

@@ -9,7 +9,7 @@ ghost use Rattle.amcheck.specs.Sketches.{IsSketch};
 use crate::page_list::PageList;
 use crate::page_room::PageRoom;
 use crate::sketches::Sketch;
-use index_model::Bound;
+use index_model::{Bound, Noted};
 use page_codec::{Downlink, Page};
 use std::marker::Model;
 use tree_shape::links_on;
@@ -20,7 +20,7 @@ use tree_shape::links_on;
 pub(crate) struct Pages {
     sketches: Vec<Sketch>,
     whole: Vec<Page>,
-    list: PageList,
+    list: Noted<PageList>,
 }
 
 impl Model for Pages {
@@ -31,9 +31,9 @@ impl Model for Pages {
 
     ghost use Rattle.amcheck.specs.Sketches.{HoldSketches};
 
-    ghost view = { λ p. p.list.pages };
+    ghost view = { λ p. p.list.value };
 
-    ghost invariant = { λ p. HoldSketches p.list.pages p.whole.items p.sketches.items };
+    ghost invariant = { λ p. HoldSketches p.list.value p.whole.items p.sketches.items };
 }
 
 impl Pages {
@@ -41,8 +41,8 @@ impl Pages {
 
     /// Those that were read.
     pub(crate) fn new(room: PageRoom) -> Pages
-        requires { HoldSketches room.list.pages room.whole.items room.sketches.items }
-        ensures { result ≡ room.list.pages }
+        requires { HoldSketches room.list.value room.whole.items room.sketches.items }
+        ensures { result ≡ room.list.value }
     {
         Pages {
             sketches: room.sketches,

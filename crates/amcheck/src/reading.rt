@@ -76,7 +76,7 @@ pub(crate) fn read_pages<S: PageStore, P: Progress>(
     room: PageRoom,
     progress: &P,
 ) -> Result<Pages, Fault>
-    requires empty { room.list.pages ≡ [] }
+    requires empty { room.list.value ≡ [] }
     requires room { HasPageRoom room (length (S.state store.old).pages) }
     ensures steps { Continues S.follows store.old store.new }
     ensures state { S.state store.new ≡ S.state store.old }

@@ -1,5 +1,4 @@
 pub mod Going
 pub mod Standing
 mod Noting
-pub mod Steps
 pub mod Replaying

@@ -279,6 +279,6 @@ module _ (start : List ℕ) (calls : List DeviceCall) (inside : IsTrue (are_insi
       (left_after_torn at_sync (synced_over start calls) (drop (synced_calls calls) calls) (none_behind calls) after_inside stays_at_sync)
 
 pub left_by_a_crash : (m : MemDevice) (image : CrashImage) → MayCrashTo (trace_of m).now (left_by image m)
-left_by_a_crash m Drop = drop_left m.past.start m.past.calls m.inside
+left_by_a_crash m Drop = drop_left m.past.value.start m.past.value.calls m.inside
 left_by_a_crash m Keep = seen_stays (trace_of m).now
-left_by_a_crash m Tear = tear_left m.past.start m.past.calls m.inside
+left_by_a_crash m Tear = tear_left m.past.value.start m.past.value.calls m.inside

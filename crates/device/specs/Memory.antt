@@ -9,7 +9,7 @@ use Rattle.device.specs.declared.plan.Plan.{Plan}
 
 -- its moments, by its calls
 abbrev pub trace_of : MemDevice → Trace
-trace_of m = done (first m.past.start) m.past.calls
+trace_of m = done (first m.past.value.start) m.past.value.calls
 
 -- how many of its calls have failed
 abbrev pub failures_of : MemDevice → ℕ
@@ -26,6 +26,6 @@ calls_of m = m.made
 -- what it leaves: the bytes at the last sync, all bytes as written, or those at the last sync with
 -- each later write torn
 abbrev pub left_by : CrashImage → MemDevice → List ℕ
-left_by Drop m = synced_over m.past.start m.past.calls
+left_by Drop m = synced_over m.past.value.start m.past.value.calls
 left_by Keep m = (trace_of m).now.seen
-left_by Tear m = torn_after_sync m.past.start m.past.calls
+left_by Tear m = torn_after_sync m.past.value.start m.past.value.calls

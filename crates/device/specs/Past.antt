@@ -5,8 +5,8 @@ use Rattle.device.specs.declared.past.Past.{Past}
 use Rattle.device.specs.declared.record.Piece.{Piece}
 
 -- it began with these bytes, and no call was made
-abbrev pub begun_with : List ℕ → Past → Past
-begun_with bytes past = record past { start = bytes; calls = [] }
+abbrev pub begun_with : List ℕ → Past
+begun_with bytes = record { start = bytes; calls = [] }
 
 -- with one call more
 abbrev pub with_call : DeviceCall → Past → Past

@@ -1,35 +1,28 @@
 //! A list of calls that only clauses read.
-ghost use Rattle.std.specs.Prelude.{◌≡◌, List, [], ◌∷◌};
-ghost use Rattle.std.specs.Borrow.{ftrue};
-ghost use Rattle.device.specs.Event.{Event};
 
-use std::marker::{Model, PhantomData};
+ghost use Rattle.std.specs.Prelude.{[], ◌∷◌};
 
-/// Calls with their answers, the newest first. It takes no bytes.
-#[derive(Drop)]
-pub struct Events {
-    marker: PhantomData<u8>,
-    pub ghost list: { List Event },
-}
+use index_model::{Noted, Reckons};
+use std::marker::Model;
+
+/// Calls with their answers, the newest first. None is made: it is the type of one that is noted.
+pub struct Events {}
 
 impl Model for Events {
-    ghost also_owns = { λ _. ftrue };
+    ghost use Rattle.std.specs.Prelude.{List, []};
+    ghost use Rattle.device.specs.Event.{Event};
+
+    ghost Value = { List Event };
+
+    ghost view = { λ _. [] };
 }
 
-// It owns nothing.
-unsafe impl Send for Events {}
+/// No call.
+impl Reckons<()> for Events {
+    ghost reckoned = { λ _. [] };
+}
 
-impl Events {
-    pub fn new() -> Events
-        ensures { result.list ≡ [] }
-    {
-        Events {
-            marker: PhantomData,
-        }
-    }
-
-    /// Which call it was, where, how many bytes went, whether it succeeded, and its bytes.
-    pub fn note(&mut self, _kind: u64, _place: u64, _count: u64, _is_ok: bool, _bytes: &[u8])
-        ensures { self.new.list ≡ (_kind, _place, _count, _is_ok, _bytes.now) ∷ self.old.list }
-    {}
+/// One call more: which it was, where, how many bytes went, whether it succeeded, and its bytes.
+impl<'a> Reckons<(u64, u64, u64, bool, &'a [u8], &'a Noted<Events>)> for Events {
+    ghost reckoned = { λ x. (x.0, x.1, x.2, x.3, x.4.now) ∷ x.5.now.value };
 }

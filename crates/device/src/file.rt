@@ -10,7 +10,7 @@ ghost use Rattle.device.specs.Unknown.{some_bytes, length-some_bytes};
 use crate::device::Device;
 use crate::events::Events;
 use crate::syncer::{SyncNotes, Syncer, is_beside};
-use index_model::Fault;
+use index_model::{Fault, Noted, reckon};
 use std::alloc::{AllocError, Global};
 use std::fs::{self, File, OpenFile, OpenOptions, TryLockError};
 use std::io::{self, Error, ErrorKind, Seek, SeekFrom};
@@ -20,6 +20,8 @@ use std::os::unix::fs::{FileExt, FileTypeExt};
 use std::path::Path;
 use std::rt::Files;
 use std::sync::Arc;
+
+const NO_BYTES: &[u8] = &[];
 
 static ZEROS_TO_WRITE: [u8; 65_536] = [0; 65_536];
 
@@ -158,28 +160,28 @@ pub struct FileDevice<S: Start> {
     locked: Locked,
     len: u64,
     start: PhantomData<S>,
-    events: Events,
+    events: Noted<Events>,
     stopped: bool,
     error: Option<Error>,
-    ghost sized: { length (after_calls (S.Start.bytes len) events.list).now.seen ≡ len },
-    ghost small: { length (after_calls (S.Start.bytes len) events.list).now.seen < 2 ^ 63 },
+    ghost sized: { length (after_calls (S.Start.bytes len) events.value).now.seen ≡ len },
+    ghost small: { length (after_calls (S.Start.bytes len) events.value).now.seen < 2 ^ 63 },
 }
 
 impl<S: Start> FileDevice<S> {
     /// A file of so many bytes, before any call.
     fn of_file(locked: Locked, len: u64) -> FileDevice<S>
         requires { len < 2 ^ 63 }
-        ensures held { after_calls (S.Start.bytes result.len) result.events.list
+        ensures held { after_calls (S.Start.bytes result.len) result.events.value
             ≡ first (S.Start.bytes len) }
-        ensures honest { are_right (S.Start.bytes result.len) result.events.list ≡ true }
-        ensures failures { failed_in result.events.list ≡ 0 }
+        ensures honest { are_right (S.Start.bytes result.len) result.events.value ≡ true }
+        ensures failures { failed_in result.events.value ≡ 0 }
         ensures runs { result.stopped ≡ false }
     {
         FileDevice {
             locked,
             len,
             start: PhantomData,
-            events: Events::new(),
+            events: reckon(&()),
             stopped: false,
             error: None,
         }
@@ -197,11 +199,11 @@ impl FileDevice<Zeros> {
         len: u64,
     ) -> io::Result<FileDevice<Zeros>>
         // It holds zeros, all synced, and no call of it was made.
-        ensures held { IfOk result (λ d. after_calls (replicate d.len 0) d.events.list
+        ensures held { IfOk result (λ d. after_calls (replicate d.len 0) d.events.value
             ≡ first (replicate len 0)) }
         ensures honest { IfOk result
-            (λ d. are_right (replicate d.len 0) d.events.list ≡ true) }
-        ensures failures { IfOk result (λ d. failed_in d.events.list ≡ 0) }
+            (λ d. are_right (replicate d.len 0) d.events.value ≡ true) }
+        ensures failures { IfOk result (λ d. failed_in d.events.value ≡ 0) }
         ensures runs { IfOk result (λ d. d.stopped ≡ false) }
     {
         want_len(len)?;
@@ -225,11 +227,11 @@ impl FileDevice<Zeros> {
     /// isn't known. It is closed where it is refused.
     pub fn made(file: File, len: u64, filled: u64) -> io::Result<FileDevice<Zeros>>
         // It holds zeros, all synced, and no call of it was made.
-        ensures held { IfOk result (λ d. after_calls (replicate d.len 0) d.events.list
+        ensures held { IfOk result (λ d. after_calls (replicate d.len 0) d.events.value
             ≡ first (replicate len 0)) }
         ensures honest { IfOk result
-            (λ d. are_right (replicate d.len 0) d.events.list ≡ true) }
-        ensures failures { IfOk result (λ d. failed_in d.events.list ≡ 0) }
+            (λ d. are_right (replicate d.len 0) d.events.value ≡ true) }
+        ensures failures { IfOk result (λ d. failed_in d.events.value ≡ 0) }
         ensures runs { IfOk result (λ d. d.stopped ≡ false) }
     {
         want_len(len)?;
@@ -244,11 +246,11 @@ impl<S: Start> FileDevice<S> {
     /// first, so that what it holds stands through a crash. Refused with what the system says, and so where
     /// another has the file's lock; nothing is changed then.
     pub fn open<R: Files<File = File>>(rt: &R, path: &str) -> io::Result<FileDevice<S>>
-        ensures held { IfOk result (λ d. after_calls (S.Start.bytes d.len) d.events.list
+        ensures held { IfOk result (λ d. after_calls (S.Start.bytes d.len) d.events.value
             ≡ first (S.Start.bytes d.len)) }
         ensures honest { IfOk result
-            (λ d. are_right (S.Start.bytes d.len) d.events.list ≡ true) }
-        ensures failures { IfOk result (λ d. failed_in d.events.list ≡ 0) }
+            (λ d. are_right (S.Start.bytes d.len) d.events.value ≡ true) }
+        ensures failures { IfOk result (λ d. failed_in d.events.value ≡ 0) }
         ensures runs { IfOk result (λ d. d.stopped ≡ false) }
     {
         let file = OpenOptions::new().read(true).write(true).open(rt, path)?;
@@ -265,11 +267,11 @@ impl<S: Start> FileDevice<S> {
     /// duplicate that is used, that nobody unlocks, and that doesn't append. The device closes it without a
     /// call that unlocks it, as the caller may keep the lock by a duplicate: see [`FileDevice::into_owner`].
     pub fn held(file: File) -> io::Result<FileDevice<S>>
-        ensures held { IfOk result (λ d. after_calls (S.Start.bytes d.len) d.events.list
+        ensures held { IfOk result (λ d. after_calls (S.Start.bytes d.len) d.events.value
             ≡ first (S.Start.bytes d.len)) }
         ensures honest { IfOk result
-            (λ d. are_right (S.Start.bytes d.len) d.events.list ≡ true) }
-        ensures failures { IfOk result (λ d. failed_in d.events.list ≡ 0) }
+            (λ d. are_right (S.Start.bytes d.len) d.events.value ≡ true) }
+        ensures failures { IfOk result (λ d. failed_in d.events.value ≡ 0) }
         ensures runs { IfOk result (λ d. d.stopped ≡ false) }
     {
         FileDevice::over(Locked::take(file, false)?)
@@ -277,11 +279,11 @@ impl<S: Start> FileDevice<S> {
 
     /// A locked file, synced first, with all its bytes. Refused as [`FileDevice::held`] is.
     fn over(locked: Locked) -> io::Result<FileDevice<S>>
-        ensures held { IfOk result (λ d. after_calls (S.Start.bytes d.len) d.events.list
+        ensures held { IfOk result (λ d. after_calls (S.Start.bytes d.len) d.events.value
             ≡ first (S.Start.bytes d.len)) }
         ensures honest { IfOk result
-            (λ d. are_right (S.Start.bytes d.len) d.events.list ≡ true) }
-        ensures failures { IfOk result (λ d. failed_in d.events.list ≡ 0) }
+            (λ d. are_right (S.Start.bytes d.len) d.events.value ≡ true) }
+        ensures failures { IfOk result (λ d. failed_in d.events.value ≡ 0) }
         ensures runs { IfOk result (λ d. d.stopped ≡ false) }
     {
         locked.file.sync_all()?;
@@ -294,7 +296,7 @@ impl<S: Start> FileDevice<S> {
     /// file. For a caller that handed an open file in, and uses no duplicate of its descriptor any more.
     pub fn into_owner(self) -> FileDevice<S>
         ensures len { result.len ≡ self.len }
-        ensures calls { result.events.list ≡ self.events.list }
+        ensures calls { result.events.value ≡ self.events.value }
         ensures stopped { result.stopped ≡ self.stopped }
     {
         let mut device = self;
@@ -312,7 +314,7 @@ impl<S: Start> FileDevice<S> {
         beside: File,
     ) -> Result<(FileDevice<S>, Option<Syncer>), AllocError>
         ensures len { IfOk result (λ both. both.0.len ≡ self.len) }
-        ensures calls { IfOk result (λ both. both.0.events.list ≡ self.events.list) }
+        ensures calls { IfOk result (λ both. both.0.events.value ≡ self.events.value) }
         ensures stopped { IfOk result (λ both. both.0.stopped ≡ self.stopped) }
     {
         let mut device = self;
@@ -322,28 +324,28 @@ impl<S: Start> FileDevice<S> {
 
     /// Notes a call that is not made, since the file has stopped.
     fn refuse(&mut self) -> Fault
-        ensures noted { self.new.events.list ≡ (3, 0, 0, false, []) ∷ self.old.events.list }
+        ensures noted { self.new.events.value ≡ (3, 0, 0, false, []) ∷ self.old.events.value }
         ensures len { self.new.len ≡ self.old.len }
         ensures stays { self.new.stopped ≡ self.old.stopped }
         ensures io { result ≡ Fault.Io }
     {
-        self.events.note(3, 0, 0, false, &[]);
+        self.events = reckon(&(3, 0, 0, false, NO_BYTES, &self.events));
         Fault::Io
     }
 
     /// Notes a write or a sync that failed, and what the system said: from now on each call answers `Io`.
     fn stop(&mut self, error: Error, kind: u64, at: u64, bytes: &[u8]) -> Fault
         requires range { kind ≡ 1 → at + length bytes.now ≤ length (after_calls
-            (S.Start.bytes self.old.len) self.old.events.list).now.seen }
-        ensures noted { self.new.events.list
-            ≡ (kind, at, 0, false, bytes.now) ∷ self.old.events.list }
+            (S.Start.bytes self.old.len) self.old.events.value).now.seen }
+        ensures noted { self.new.events.value
+            ≡ (kind, at, 0, false, bytes.now) ∷ self.old.events.value }
         ensures len { self.new.len ≡ self.old.len }
         ensures stopped { self.new.stopped ≡ true }
         ensures io { result ≡ Fault.Io }
     {
         self.stopped = true;
         self.error = Some(error);
-        self.events.note(kind, at, 0, false, bytes);
+        self.events = reckon(&(kind, at, 0, false, bytes, &self.events));
         Fault::Io
     }
 }
@@ -444,11 +446,11 @@ pub fn sync_folder<R: Files<File = File>>(rt: &R, path: &str) -> io::Result<()> 
 }
 
 impl<S: Start> Device for FileDevice<S> {
-    ghost trace = { λ d. after_calls (S.Start.bytes d.len) d.events.list };
+    ghost trace = { λ d. after_calls (S.Start.bytes d.len) d.events.value };
 
-    ghost failures = { λ d. failed_in d.events.list };
+    ghost failures = { λ d. failed_in d.events.value };
 
-    ghost is_honest = { λ d. are_right (S.Start.bytes d.len) d.events.list };
+    ghost is_honest = { λ d. are_right (S.Start.bytes d.len) d.events.value };
 
     ghost small = { λ d. d.small };
 
@@ -462,18 +464,18 @@ impl<S: Start> Device for FileDevice<S> {
 
     fn read_at(&mut self, at: u64, buf: &mut [u8]) -> Result<(), Fault>
         requires range { at + length buf.old ≤ length (after_calls
-            (S.Start.bytes self.old.len) self.old.events.list).now.seen }
-        ensures read { IsTrue (are_right (S.Start.bytes self.new.len) self.new.events.list)
-            → OnOk result (Reads (after_calls (S.Start.bytes self.old.len) self.old.events.list)
+            (S.Start.bytes self.old.len) self.old.events.value).now.seen }
+        ensures read { IsTrue (are_right (S.Start.bytes self.new.len) self.new.events.value)
+            → OnOk result (Reads (after_calls (S.Start.bytes self.old.len) self.old.events.value)
             at buf.old buf.new) }
-        ensures honest { IsTrue (are_right (S.Start.bytes self.new.len) self.new.events.list)
-            ↔ (IsTrue (are_right (S.Start.bytes self.old.len) self.old.events.list)
-            × OnOk result (Reads (after_calls (S.Start.bytes self.old.len) self.old.events.list)
+        ensures honest { IsTrue (are_right (S.Start.bytes self.new.len) self.new.events.value)
+            ↔ (IsTrue (are_right (S.Start.bytes self.old.len) self.old.events.value)
+            × OnOk result (Reads (after_calls (S.Start.bytes self.old.len) self.old.events.value)
             at buf.old buf.new)) }
-        ensures trace { after_calls (S.Start.bytes self.new.len) self.new.events.list
-            ≡ after_calls (S.Start.bytes self.old.len) self.old.events.list }
-        ensures failures { CountsFailures result (failed_in self.old.events.list)
-            (failed_in self.new.events.list) }
+        ensures trace { after_calls (S.Start.bytes self.new.len) self.new.events.value
+            ≡ after_calls (S.Start.bytes self.old.len) self.old.events.value }
+        ensures failures { CountsFailures result (failed_in self.old.events.value)
+            (failed_in self.new.events.value) }
         ensures stopped { self.old.stopped ≡ true → result ≡ Err Fault.Io }
         ensures stays { self.new.stopped ≡ self.old.stopped }
     {
@@ -482,12 +484,12 @@ impl<S: Start> Device for FileDevice<S> {
         }
         match self.locked.file.read_exact_at(buf, at) {
             Ok(()) => {
-                self.events.note(0, at, buf.len() as u64, true, buf);
+                self.events = reckon(&(0, at, buf.len() as u64, true, &*buf, &self.events));
                 Ok(())
             }
             Err(error) => {
                 self.error = Some(error);
-                self.events.note(0, at, 0, false, &[]);
+                self.events = reckon(&(0, at, 0, false, NO_BYTES, &self.events));
                 Err(Fault::Io)
             }
         }
@@ -495,35 +497,35 @@ impl<S: Start> Device for FileDevice<S> {
 
     fn write_at(&mut self, at: u64, bytes: &[u8]) -> Result<(), Fault>
         requires range { at + length bytes.now ≤ length (after_calls
-            (S.Start.bytes self.old.len) self.old.events.list).now.seen }
+            (S.Start.bytes self.old.len) self.old.events.value).now.seen }
         ensures trace { Writes at bytes.now result
-            (after_calls (S.Start.bytes self.old.len) self.old.events.list)
-            (after_calls (S.Start.bytes self.new.len) self.new.events.list) }
-        ensures len { length (after_calls (S.Start.bytes self.new.len) self.new.events.list).now.seen
-            ≡ length (after_calls (S.Start.bytes self.old.len) self.old.events.list).now.seen }
-        ensures honest { are_right (S.Start.bytes self.new.len) self.new.events.list
-            ≡ are_right (S.Start.bytes self.old.len) self.old.events.list }
-        ensures failures { CountsFailures result (failed_in self.old.events.list)
-            (failed_in self.new.events.list) }
+            (after_calls (S.Start.bytes self.old.len) self.old.events.value)
+            (after_calls (S.Start.bytes self.new.len) self.new.events.value) }
+        ensures len { length (after_calls (S.Start.bytes self.new.len) self.new.events.value).now.seen
+            ≡ length (after_calls (S.Start.bytes self.old.len) self.old.events.value).now.seen }
+        ensures honest { are_right (S.Start.bytes self.new.len) self.new.events.value
+            ≡ are_right (S.Start.bytes self.old.len) self.old.events.value }
+        ensures failures { CountsFailures result (failed_in self.old.events.value)
+            (failed_in self.new.events.value) }
         ensures stopped { self.old.stopped ≡ true → result ≡ Err Fault.Io }
         ensures stops { OnErr result (self.new.stopped ≡ true) }
         // One that was made and failed leaves any bytes in its range; one that was not made leaves all as it
         // was.
         ensures loose { self.old.stopped ≡ false → OnErr result
-            (after_calls (S.Start.bytes self.new.len) self.new.events.list
+            (after_calls (S.Start.bytes self.new.len) self.new.events.value
             ≡ next (wrote at bytes.now
-            (after_calls (S.Start.bytes self.old.len) self.old.events.list).now)
-            (after_calls (S.Start.bytes self.old.len) self.old.events.list)) }
+            (after_calls (S.Start.bytes self.old.len) self.old.events.value).now)
+            (after_calls (S.Start.bytes self.old.len) self.old.events.value)) }
         ensures not_made { self.old.stopped ≡ true
-            → after_calls (S.Start.bytes self.new.len) self.new.events.list
-            ≡ after_calls (S.Start.bytes self.old.len) self.old.events.list }
+            → after_calls (S.Start.bytes self.new.len) self.new.events.value
+            ≡ after_calls (S.Start.bytes self.old.len) self.old.events.value }
     {
         if self.stopped {
             return Err(self.refuse());
         }
         match self.locked.write(at, bytes) {
             Ok(()) => {
-                self.events.note(1, at, bytes.len() as u64, true, bytes);
+                self.events = reckon(&(1, at, bytes.len() as u64, true, bytes, &self.events));
                 Ok(())
             }
             Err(error) => Err(self.stop(error, 1, at, bytes)),
@@ -532,14 +534,14 @@ impl<S: Start> Device for FileDevice<S> {
 
     fn sync(&mut self) -> Result<(), Fault>
         ensures trace { Syncs result
-            (after_calls (S.Start.bytes self.old.len) self.old.events.list)
-            (after_calls (S.Start.bytes self.new.len) self.new.events.list) }
-        ensures len { length (after_calls (S.Start.bytes self.new.len) self.new.events.list).now.seen
-            ≡ length (after_calls (S.Start.bytes self.old.len) self.old.events.list).now.seen }
-        ensures honest { are_right (S.Start.bytes self.new.len) self.new.events.list
-            ≡ are_right (S.Start.bytes self.old.len) self.old.events.list }
-        ensures failures { CountsFailures result (failed_in self.old.events.list)
-            (failed_in self.new.events.list) }
+            (after_calls (S.Start.bytes self.old.len) self.old.events.value)
+            (after_calls (S.Start.bytes self.new.len) self.new.events.value) }
+        ensures len { length (after_calls (S.Start.bytes self.new.len) self.new.events.value).now.seen
+            ≡ length (after_calls (S.Start.bytes self.old.len) self.old.events.value).now.seen }
+        ensures honest { are_right (S.Start.bytes self.new.len) self.new.events.value
+            ≡ are_right (S.Start.bytes self.old.len) self.old.events.value }
+        ensures failures { CountsFailures result (failed_in self.old.events.value)
+            (failed_in self.new.events.value) }
         ensures stopped { self.old.stopped ≡ true → result ≡ Err Fault.Io }
         ensures stops { OnErr result (self.new.stopped ≡ true) }
     {
@@ -548,7 +550,7 @@ impl<S: Start> Device for FileDevice<S> {
         }
         match self.locked.sync() {
             Ok(()) => {
-                self.events.note(2, 0, 0, true, &[]);
+                self.events = reckon(&(2, 0, 0, true, NO_BYTES, &self.events));
                 Ok(())
             }
             Err(error) => Err(self.stop(error, 2, 0, &[])),

@@ -8,10 +8,10 @@ ghost use Rattle.device.specs.Plans.{fate_of, after_call, counted_with};
 
 use crate::count::Count;
 use crate::device::Device;
-use crate::past::Past;
+use crate::past::{Past, Synced};
 use crate::plan::{Fate, Plan};
 use crate::record::{Piece, settle, torn_image, write_noted};
-use index_model::Fault;
+use index_model::{Fault, Noted, reckon};
 use std::alloc::Global;
 
 /// What a crash leaves of a device in memory.
@@ -35,16 +35,16 @@ pub struct MemDevice {
     firm: Vec<u8>,
     bytes: Vec<u8>,
     since: Vec<Piece>,
-    failures: Count,
+    failures: Noted<Count>,
     plan: Plan,
     made: u64,
-    past: Past,
-    ghost replayed: { bytes.items ≡ (done (first past.start) past.calls).now.seen },
-    ghost inside: { IsTrue (are_inside (length past.start) past.calls) },
-    ghost sized: { length bytes.items ≡ length past.start },
-    ghost small: { length (done (first past.start) past.calls).now.seen < 2 ^ 63 },
-    ghost firm_is: { firm.items ≡ synced_over past.start past.calls },
-    ghost since_is: { writes_of since.items ≡ drop (synced_calls past.calls) past.calls },
+    past: Noted<Past>,
+    ghost replayed: { bytes.items ≡ (done (first past.value.start) past.value.calls).now.seen },
+    ghost inside: { IsTrue (are_inside (length past.value.start) past.value.calls) },
+    ghost sized: { length bytes.items ≡ length past.value.start },
+    ghost small: { length (done (first past.value.start) past.value.calls).now.seen < 2 ^ 63 },
+    ghost firm_is: { firm.items ≡ synced_over past.value.start past.value.calls },
+    ghost since_is: { writes_of since.items ≡ drop (synced_calls past.value.calls) past.value.calls },
 }
 
 impl MemDevice {
@@ -131,14 +131,13 @@ impl MemDevice {
         let Ok(bytes) = firm.to_vec(alloc) else {
             return Err(Fault::NoMemory);
         };
-        let mut past = Past::new();
-        past.begin(&firm);
+        let past = reckon(&firm);
         Ok(MemDevice {
             alloc,
             firm,
             bytes,
             since: Vec::new(alloc),
-            failures: Count::new(),
+            failures: reckon(&()),
             plan: Plan::NONE,
             made: 0,
             past,
@@ -159,11 +158,11 @@ fn next_call(plan: &mut Plan, made: &mut u64) -> Fate
 }
 
 /// Counts a failed call.
-fn count_failure(failures: &mut Count) -> Fault
+fn count_failure(failures: &mut Noted<Count>) -> Fault
     ensures counted { failures.new.value ≡ suc failures.old.value }
     ensures io { result ≡ Fault.Io }
 {
-    failures.add_one();
+    *failures = reckon(failures);
     Fault::Io
 }
 
@@ -171,7 +170,7 @@ impl Device for MemDevice {
     ghost use Rattle.device.specs.Memory.{trace_of, failures_of, plan_of, calls_of};
     ghost use Rattle.device.specs.Plans.{fate_of, after_call, counted_with};
 
-    ghost trace = { λ m. done (first m.past.start) m.past.calls };
+    ghost trace = { λ m. done (first m.past.value.start) m.past.value.calls };
 
     ghost failures = { λ m. m.failures.value };
 
@@ -221,7 +220,7 @@ impl Device for MemDevice {
         let Ok(()) = write_noted(self.alloc, &mut self.since, &mut self.bytes, at, bytes) else {
             return Err(count_failure(&mut self.failures));
         };
-        self.past.write(at, bytes);
+        self.past = reckon(&(&self.past, at, bytes));
         if fate == Fate::Fails {
             return Err(count_failure(&mut self.failures));
         }
@@ -240,7 +239,7 @@ impl Device for MemDevice {
             return Err(count_failure(&mut self.failures));
         };
         settle(&mut self.firm, &mut self.since);
-        self.past.sync();
+        self.past = reckon(&(&self.past, Synced {}));
         Ok(())
     }
 }

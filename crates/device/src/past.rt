@@ -1,14 +1,15 @@
 //! What was done with a device in memory, as lists that only clauses read.
-ghost use Rattle.std.specs.Prelude.{◌≡◌, ℕ, List, []};
+
+ghost use Rattle.std.specs.Prelude.{ℕ, List};
 ghost use Rattle.std.specs.Borrow.{ftrue};
-ghost use Rattle.device.specs.Record.{DeviceCall};
+ghost use Rattle.device.specs.Record.{DeviceCall, Write, Sync};
 
-use std::marker::{Model, PhantomData};
+use index_model::{Noted, Reckons};
+use std::marker::Model;
 
-/// The bytes that a device began with, and its writes and syncs since, the oldest first. It takes no bytes.
-#[derive(Drop)]
+/// The bytes that a device began with, and its writes and syncs since, the oldest first. None is made: it is
+/// the type of one that is noted.
 pub struct Past {
-    marker: PhantomData<u8>,
     pub ghost start: { List ℕ },
     pub ghost calls: { List DeviceCall },
 }
@@ -17,34 +18,27 @@ impl Model for Past {
     ghost also_owns = { λ _. ftrue };
 }
 
-// It owns nothing.
-unsafe impl Send for Past {}
+/// That a device was synced.
+#[derive(Clone, Copy)]
+pub struct Synced {}
 
-impl Past {
-    ghost use Rattle.device.specs.Record.{Write, Sync};
-    ghost use Rattle.device.specs.Past.{begun_with, with_call};
+/// It began with these bytes, and no call was made.
+impl Reckons<Vec<u8>> for Past {
+    ghost use Rattle.device.specs.Past.{begun_with};
 
-    /// No bytes, and no call.
-    pub fn new() -> Past
-        ensures { (result.start ≡ []) × (result.calls ≡ []) }
-    {
-        Past {
-            marker: PhantomData,
-        }
-    }
+    ghost reckoned = { λ bytes. begun_with bytes.items };
+}
 
-    /// It began with these bytes, and no call was made.
-    pub fn begin(&mut self, _bytes: &[u8])
-        ensures { self.new ≡ begun_with _bytes.now self.old }
-    {}
+/// These bytes were written there.
+impl<'a> Reckons<(&'a Noted<Past>, u64, &'a [u8])> for Past {
+    ghost use Rattle.device.specs.Past.{with_call};
 
-    /// These bytes were written there.
-    pub fn write(&mut self, _at: u64, _bytes: &[u8])
-        ensures { self.new ≡ with_call (Write _at _bytes.now) self.old }
-    {}
+    ghost reckoned = { λ x. with_call (Write x.1 x.2.now) x.0.now.value };
+}
 
-    /// It was synced.
-    pub fn sync(&mut self)
-        ensures { self.new ≡ with_call Sync self.old }
-    {}
+/// It was synced.
+impl<'a> Reckons<(&'a Noted<Past>, Synced)> for Past {
+    ghost use Rattle.device.specs.Past.{with_call};
+
+    ghost reckoned = { λ x. with_call Sync x.0.now.value };
 }

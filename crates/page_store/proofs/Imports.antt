@@ -11,8 +11,6 @@ pub use Rattle.index_model.specs.declared.fault.Fault.TheVariants.{Io, LogFull, 
 pub use Rattle.index_model.specs.declared.format.Format.{Format}
 pub use Rattle.device.proofs.Going.{goes_both, goes_now, goes_on, goes_weaker, stays, syncs_goes, writes_goes}
 pub use Rattle.device.proofs.Standing.{has_drop, has_kept, kept, on_image, same_only, synced_only, wrote_has, wrote_only}
-pub use Rattle.device.proofs.Steps.{ !, Val, [], agg, alloc_all, and_then, done, ends_at, enter, free_all, get, join, keep, look_at, no_more, nothing, on_entry, pass_all, proved, pure_i, qed, raw}
-pub use Rattle.device.proofs.Steps.{refl, returns, says, sets, suffices, vcons, vnil, vstruct, ◌$◌, ◌∵◌, ◌∷◌}
 pub use Rattle.device.specs.Disk.{CountsFailures, DiskMoment, MayCrashTo, Trace, Writes, synced, wrote}
 pub use Rattle.device.specs.Moments.{AtEachMoment}
 pub use Rattle.device.specs.Places.{ChangesOnly, Has, OnDisk}
@@ -51,6 +49,5 @@ pub use Rattle.page_store.specs.Restart.{CrashesToPart, RestartsTo, RestartsToPa
 pub use Rattle.page_store.specs.Stores.{held_by, state_of}
 pub use Rattle.page_store.specs.Taking.{AreTooMany, AreWrittenAhead, CostsFrame, FetchFails, GetFrames, GetsFrame, IsWrittenNext, SameFrames, TakingFails}
 pub use Rattle.page_store.specs.Writing.{AreSeen, AreWrittenUpTo, GivesPage, HoldsPages, IsClean, ReadingFails}
-pub use Rattle.page_store.specs.contracts.history.History.{the_row as R}
 pub use Rattle.page_store.specs.declared.history.History.{History}
 pub use Rattle.page_store.specs.declared.logged_pages.LoggedPages.{LoggedPages}

@@ -46,7 +46,7 @@ quiet_both g a b c f s = record {
 }
 
 -- if the store is as it was except for the pool, of which some changed pages are noted as written
-pub quiet_noted : {D : Type 0} (g : Ghosts D) (a b : LoggedPages D g) → b.format ≡ a.format → b.history ≡ a.history → b.used ≡ a.used
+pub quiet_noted : {D : Type 0} (g : Ghosts D) (a b : LoggedPages D g) → b.format ≡ a.format → b.history.value ≡ a.history.value → b.used ≡ a.used
     → b.acts ≡ a.acts → b.promised ≡ a.promised → b.room ≡ a.room → b.log ≡ a.log → IsPartOf (changed_of b.pool) (changed_of a.pool)
     → Follows (held_of g a) (held_of g b) → IsSameButWritten g a b
 quiet_noted g a b format history used acts promised room log order follows = record {

@@ -6,9 +6,9 @@ use Rattle.page_action.specs.States.{with_pages}
 use Rattle.page_action.specs.Stored.{AreActable}
 use Rattle.page_store.specs.declared.history.History.{History}
 
--- the history that began with these pages too
-abbrev pub with_read : List Page → History → History
-with_read more h = record h { start = h.start ++ more; acts = [] }
+-- the history that began with this page too
+abbrev pub with_read : Page → History → History
+with_read page h = record h { start = h.start ++ page ∷ []; acts = [] }
 
 -- with one act more, which changes these pages
 abbrev pub with_act : List Page → History → History

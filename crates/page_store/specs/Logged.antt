@@ -53,13 +53,13 @@ held_of g logged = record {
   durable = logged.durable;
   room = logged.room;
   promised = logged.promised;
-  history = logged.history;
+  history = logged.history.value;
 }
 
 -- the pages and their acts are as they were
 pub record SamePages {D : Type 0} (g : Ghosts D) (old new : LoggedPages D g) : Type 0 where
   pub format : new.format ≡ old.format
-  pub history : new.history ≡ old.history
+  pub history : new.history.value ≡ old.history.value
   pub used : new.used ≡ old.used
   pub acts : new.acts ≡ old.acts
 

@@ -11,7 +11,7 @@ format_of_room room = room.format
 
 -- the pages, by their blocks
 abbrev pub pages_of_room : StoreRoom → List Page
-pages_of_room room = room.history.start
+pages_of_room room = room.history.value.start
 
 -- how many frames it has
 abbrev pub frames_of_room : StoreRoom → ℕ

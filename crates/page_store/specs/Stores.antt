@@ -14,7 +14,7 @@ use Rattle.page_store.specs.declared.store.Store.{Store}
 -- its pages and calls
 abbrev pub state_of : {D : Type 0} (g : Ghosts D) → Store D g → State
 state_of g store =
-    state_with store.held.format (most_of store.held.pool) (pages_now store.held.history)
+    state_with store.held.format (most_of store.held.pool) (pages_now store.held.history.value)
     store.held.acts store.calls
 
 -- its pages, log and device, as plain data
@@ -27,7 +27,7 @@ device_of g store = store.held.device
 
 -- the pages that it was opened with and the acts since
 abbrev pub store_history : {D : Type 0} (g : Ghosts D) → Store D g → History
-store_history g store = store.held.history
+store_history g store = store.held.history.value
 
 -- it is as an open left it on an own device, or later by its calls
 abbrev pub IsOwnStore : {D : Type 0} (g : Ghosts D) → Store D g → Type 0

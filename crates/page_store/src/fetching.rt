@@ -174,7 +174,7 @@ impl<D: Device> LoggedPages<D> {
         requires below { self.old.decoded.value.block < self.old.format.pages }
         requires absent { frame_of self.old.pool self.old.decoded.value.block ≡ None }
         requires right { D.is_honest self.old.device ≡ true → (there : Page)
-            → slice_get (pages_now self.old.history) self.old.decoded.value.block ≡ Some there
+            → slice_get (pages_now self.old.history.value) self.old.decoded.value.block ≡ Some there
             → self.old.decoded.value ≡ there }
         ensures quiet { IsSameButWritten D.Device self.old self.new }
         ensures pool { IsPut self.old.pool self.new.pool at self.old.decoded.value }
@@ -199,7 +199,7 @@ impl<D: Device> LoggedPages<D> {
         ensures room { self.new.room ≡ self.old.room }
         ensures stored { OnOk result (IsStored self.old.format block self.new.decoded.value) }
         ensures right { OnOk result (D.is_honest self.new.device ≡ true
-            → slice_get (pages_now self.old.history) block ≡ Some self.new.decoded.value) }
+            → slice_get (pages_now self.old.history.value) block ≡ Some self.new.decoded.value) }
         ensures honest { D.is_honest self.new.device ≡ true
             → OnErr result (result ≡ Err Fault.Io) }
         ensures cause { ReadingFails block result
@@ -264,7 +264,7 @@ impl<D: Device> LoggedPages<D> {
         ensures stored { OnOk result
             (IsStored self.old.format page.now.block self.new.decoded.value) }
         ensures right { OnOk result (D.is_honest self.new.device ≡ true → (there : Page)
-            → slice_get (pages_now self.old.history) page.now.block ≡ Some there
+            → slice_get (pages_now self.old.history.value) page.now.block ≡ Some there
             → self.new.decoded.value ≡ there) }
         ensures cause { IfErr result (λ e. (e ≡ Fault.Io)
             × (D.failures self.old.device < D.failures self.new.device)) }
@@ -309,7 +309,7 @@ impl<D: Device> LoggedPages<D> {
     /// Takes a frame for each of these pages, while the pages of these blocks are pinned, their own among
     /// them. Refused with `NoFrame` (10), `Io` (2) and `Stopped` (3).
     pub fn take_frames(&mut self, pages: &[Page], pinned: &[u32]) -> Result<(), Fault>
-        requires actable { AreActable self.old.format (length (pages_now self.old.history)) pages.now }
+        requires actable { AreActable self.old.format (length (pages_now self.old.history.value)) pages.now }
         requires pinned { All (λ page. has_block pinned.now page.block ≡ true) pages.now }
         ensures quiet { IsSameButWritten D.Device self.old self.new }
         ensures frames { GetFrames D.Device pinned.now (map (λ page. page.block) pages.now)

@@ -1,15 +1,16 @@
 //! The acts of a store, as a list that only clauses read.
-ghost use Rattle.std.specs.Prelude.{◌≡◌, List, []};
+
+ghost use Rattle.std.specs.Prelude.{List, []};
 ghost use Rattle.std.specs.Borrow.{ftrue};
 ghost use Rattle.page_codec.specs.declared.page.Page.{Page};
 
+use index_model::{Noted, Reckons};
 use page_codec::Page;
-use std::marker::{Model, PhantomData};
+use std::marker::Model;
 
-/// The pages that a store was opened with and the acts since, the oldest first. It takes no bytes.
-#[derive(Drop)]
+/// The pages that a store was opened with and the acts since, the oldest first. None is made: it is the type
+/// of one that is noted.
 pub(crate) struct History {
-    marker: PhantomData<u8>,
     pub ghost start: { List Page },
     pub ghost acts: { List (List Page) },
 }
@@ -18,28 +19,21 @@ impl Model for History {
     ghost also_owns = { λ _. ftrue };
 }
 
-// It owns nothing.
-unsafe impl Send for History {}
+/// No page, no act.
+impl Reckons<()> for History {
+    ghost reckoned = { λ _. record { start = []; acts = [] } };
+}
 
-impl History {
-    ghost use Rattle.page_store.specs.Histories.{with_read, with_act};
+/// It was opened with this page too.
+impl<'a> Reckons<(&'a Noted<History>, &'a Page)> for History {
+    ghost use Rattle.page_store.specs.Histories.{with_read};
 
-    /// No page, no act.
-    pub fn new() -> History
-        ensures { (result.start ≡ []) × (result.acts ≡ []) }
-    {
-        History {
-            marker: PhantomData,
-        }
-    }
+    ghost reckoned = { λ x. with_read x.1.now x.0.now.value };
+}
 
-    /// It was opened with these pages too.
-    pub fn begin(&mut self, _pages: &[Page])
-        ensures { self.new ≡ with_read _pages.now self.old }
-    {}
+/// One act more, which changes these pages.
+impl<'a> Reckons<(&'a Noted<History>, &'a [Page])> for History {
+    ghost use Rattle.page_store.specs.Histories.{with_act};
 
-    /// One act more, which changes these pages.
-    pub fn note(&mut self, _pages: &[Page])
-        ensures { self.new ≡ with_act _pages.now self.old }
-    {}
+    ghost reckoned = { λ x. with_act x.1.now x.0.now.value };
 }

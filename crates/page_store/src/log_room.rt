@@ -9,11 +9,10 @@ ghost use Rattle.page_action.specs.Props.{AreStored-prop};
 
 use crate::history::History;
 use buffer_pool::Pool;
-use index_model::{Fault, Format};
+use index_model::{Fault, Format, Noted, reckon};
 use page_action::{CallRoom, DeletionNumbers, is_storable};
 use page_codec::Page;
 use std::alloc::Global;
-use std::slice;
 
 /// The pages of an index as they were read, in order, and the room for its frames. None of them is held yet.
 #[derive(Drop)]
@@ -23,18 +22,18 @@ pub struct StoreRoom {
     pub(crate) used: u32,
     pub(crate) numbers: DeletionNumbers,
     pub(crate) calls: CallRoom,
-    pub(crate) history: History,
+    pub(crate) history: Noted<History>,
     /// Where a page is decoded before a frame gets it.
     pub(crate) decoded: Box<Page>,
     ghost allowed: { AreLimits format },
-    ghost stored: { AreStored format 0 history.start } by { AreStored-prop format 0 history.start },
-    ghost used_is: { used ≡ length history.start },
+    ghost stored: { AreStored format 0 history.value.start } by { AreStored-prop format 0 history.value.start },
+    ghost used_is: { used ≡ length history.value.start },
     ghost few: { used ≤ format.pages },
-    ghost begun: { length history.acts ≡ 0 },
+    ghost begun: { length history.value.acts ≡ 0 },
     ghost reach: { reach_of pool ≡ format.pages },
     ghost empty: { pool_count pool ≡ 0 },
-    ghost many_counts: { length numbers.counted ≡ length history.start },
-    ghost waiting: { AreWaiting numbers.waiting history.start numbers.counted },
+    ghost many_counts: { length numbers.counted ≡ length history.value.start },
+    ghost waiting: { AreWaiting numbers.waiting history.value.start numbers.counted },
     ghost count_room: { format.pages ≤ length numbers.waiting },
 }
 
@@ -69,7 +68,7 @@ impl StoreRoom {
             used: 0,
             numbers,
             calls,
-            history: History::new(),
+            history: reckon(&()),
             decoded,
         })
     }
@@ -101,7 +100,7 @@ impl StoreRoom {
             return Err(Fault::PageDamaged(block));
         }
         self.numbers.add(page.state);
-        self.history.begin(slice::from_ref(page));
+        self.history = reckon(&(&self.history, page));
         self.used += 1;
         Ok(())
     }

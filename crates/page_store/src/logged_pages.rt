@@ -16,7 +16,7 @@ use crate::changing::{change_all, used_after};
 use crate::history::History;
 use buffer_pool::Pool;
 use device::Device;
-use index_model::{Fault, Format};
+use index_model::{Fault, Format, Noted, reckon};
 use page_codec::Page;
 use redo_log::Log;
 
@@ -36,18 +36,18 @@ pub(crate) struct LoggedPages<D: Device> {
     pub(crate) room: u32,
     /// The greatest room since the last act or checkpoint.
     pub(crate) promised: u32,
-    pub(crate) history: History,
+    pub(crate) history: Noted<History>,
     /// Where a page is decoded before a frame gets it. Between calls it has no meaning.
     pub(crate) decoded: Box<Page>,
     ghost allowed: { AreLimits format },
     ghost log_format: { format_of log ≡ format } by { Coded-set format-code (format_of log) format },
     ghost sized: { place format format.pages ≤ length (D.trace device).now.seen },
-    ghost stored: { AreStored format 0 (pages_now history) } by { AreStored-prop format 0 (pages_now history) },
-    ghost used_is: { used ≡ length (pages_now history) },
+    ghost stored: { AreStored format 0 (pages_now history.value) } by { AreStored-prop format 0 (pages_now history.value) },
+    ghost used_is: { used ≡ length (pages_now history.value) },
     ghost few: { used ≤ format.pages },
     ghost reach: { reach_of pool ≡ format.pages },
-    ghost holds: { HoldsPages format (pages_now history) acts pool (D.is_honest device)
-        (D.trace device).now } by { HoldsPages-prop format (pages_now history) acts pool (D.is_honest device)
+    ghost holds: { HoldsPages format (pages_now history.value) acts pool (D.is_honest device)
+        (D.trace device).now } by { HoldsPages-prop format (pages_now history.value) acts pool (D.is_honest device)
             (D.trace device).now },
     ghost waits: { HoldsWaiting (waiting_images log) durable pool } by { HoldsWaiting-prop (waiting_images log) durable pool },
     ghost counted: { acts ≡ actions_of log },
@@ -82,7 +82,7 @@ impl<D: Device> LoggedPages<D> {
         log: Log,
         pool: Pool,
         used: u32,
-        history: History,
+        history: Noted<History>,
         decoded: Box<Page>,
     ) -> LoggedPages<D>
         requires allowed { AreLimits format }
@@ -90,14 +90,14 @@ impl<D: Device> LoggedPages<D> {
         requires fresh { actions_of log ≡ 0 }
         requires idle { waiting_count log ≡ 0 }
         requires sized { place format format.pages ≤ length (D.trace device).now.seen }
-        requires stored { AreStored format 0 history.start }
-        requires begun { length history.acts ≡ 0 }
-        requires used { used ≡ length history.start }
+        requires stored { AreStored format 0 history.value.start }
+        requires begun { length history.value.acts ≡ 0 }
+        requires used { used ≡ length history.value.start }
         requires few { used ≤ format.pages }
         requires reach { reach_of pool ≡ format.pages }
         requires empty { pool_count pool ≡ 0 }
         requires seen { D.is_honest device ≡ true
-            → AreSeen format history.start (D.trace device).now }
+            → AreSeen format history.value.start (D.trace device).now }
         ensures format { result.format ≡ format }
         ensures device { result.device ≡ device }
         ensures log { result.log ≡ log }
@@ -106,7 +106,7 @@ impl<D: Device> LoggedPages<D> {
         ensures history { result.history ≡ history }
         ensures acts { result.acts ≡ 0 }
         ensures durable { result.durable ≡ 0 }
-        ensures own { StandsOpened log (D.trace device).now history.start
+        ensures own { StandsOpened log (D.trace device).now history.value.start
             → IsOwn (held_of D.Device result) }
         ensures closed { groups_end log ≡ 0
             → LogIsClosed format (backing_of (held_of D.Device result)) }
@@ -153,7 +153,7 @@ impl<D: Device> LoggedPages<D> {
         requires used { block < self.now.used }
         requires has { IsSome (frame_of self.now.pool block) }
         ensures page { D.is_honest self.now.device ≡ true
-            → slice_get (pages_now self.now.history) block ≡ Some result.now }
+            → slice_get (pages_now self.now.history.value) block ≡ Some result.now }
         ensures stored { IsStored self.now.format block result.now }
     {
         self.pool.law();
@@ -167,13 +167,13 @@ impl<D: Device> LoggedPages<D> {
     /// the number of the act. Refused with `Stopped` (3) and `LogFull` (9).
     pub fn act(&mut self, pages: &[Page]) -> Result<u64, Fault>
         requires some { 1 ≤ length pages.now }
-        requires actable { AreActable self.old.format (length (pages_now self.old.history)) pages.now }
+        requires actable { AreActable self.old.format (length (pages_now self.old.history.value)) pages.now }
         requires held { All (λ page. IsSome (frame_of self.old.pool page.block)) pages.now }
         ensures steps { Follows (held_of D.Device self.old) (held_of D.Device self.new) }
         ensures format { self.new.format ≡ self.old.format }
-        ensures history { OnOk result (self.new.history ≡ with_act pages.now self.old.history) }
-        ensures pages { OnOk result (pages_now self.new.history
-            ≡ with_pages (pages_now self.old.history) pages.now) }
+        ensures history { OnOk result (self.new.history.value ≡ with_act pages.now self.old.history.value) }
+        ensures pages { OnOk result (pages_now self.new.history.value
+            ≡ with_pages (pages_now self.old.history.value) pages.now) }
         ensures number { IfOk result (λ n. n ≡ suc self.old.acts) }
         ensures acts { OnOk result (self.new.acts ≡ suc self.old.acts) }
         ensures pool { OnOk result (AreActed self.old.pool self.new.pool pages.now (suc self.old.acts)) }
@@ -202,7 +202,7 @@ impl<D: Device> LoggedPages<D> {
         self.acts = number;
         self.room = self.log.room();
         self.promised = self.room;
-        self.history.note(pages);
+        self.history = reckon(&(&self.history, pages));
         Ok(number)
     }
 }

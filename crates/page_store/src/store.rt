@@ -22,8 +22,8 @@ use std::io::Error;
 pub struct Store<D: Device> {
     pub(crate) held: LoggedPages<D>,
     calls: CallTable,
-    ghost counts: { length calls.counted ≡ length (pages_now held.history) },
-    ghost waiting: { AreWaiting calls.waiting (pages_now held.history) calls.counted },
+    ghost counts: { length calls.counted ≡ length (pages_now held.history.value) },
+    ghost waiting: { AreWaiting calls.waiting (pages_now held.history.value) calls.counted },
     ghost count_room: { held.format.pages ≤ length calls.waiting },
 }
 
@@ -139,7 +139,7 @@ impl<D: Device> Store<D> {
     fn take_frames(&mut self, pages: &[Page]) -> Result<(), Fault>
         requires few { length pages.now ≤ 4 }
         requires actable { AreActable self.old.held.format
-            (length (pages_now self.old.held.history)) pages.now }
+            (length (pages_now self.old.held.history.value)) pages.now }
         ensures quiet { IsSameButWritten D.Device self.old.held self.new.held }
         ensures frames { GetFrames D.Device
             (map (λ page. page.block) pages.now ++ pinned_blocks self.old.calls.table)
@@ -203,7 +203,7 @@ impl<D: Device> PageStore for Store<D> {
 
     ghost defers = { true };
 
-    ghost has = { λ s block. (block < length (pages_now s.held.history))
+    ghost has = { λ s block. (block < length (pages_now s.held.history.value))
         × IsSome (frame_of s.held.pool block) };
 
     ghost laws = { store_laws _ };

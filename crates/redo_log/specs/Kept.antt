@@ -31,7 +31,7 @@ waiting_blocks log = log.waiting.blocks.items
 
 -- these images, in this order
 abbrev pub waiting_images : Log → List Page
-waiting_images log = log.images.images
+waiting_images log = log.images.value
 
 -- how many images wait for a force
 abbrev pub waiting_count : Log → ℕ

@@ -6,11 +6,10 @@ ghost use Rattle.device.specs.Moments.{AtEachMoment};
 ghost use Rattle.device.specs.Places.{ChangesOnly, OnDisk};
 ghost use Rattle.page_codec.specs.Places.{log_end};
 
-use crate::image_list::ImageList;
 use crate::lay::seal;
 use crate::log::Log;
 use device::Device;
-use index_model::Fault;
+use index_model::{Fault, reckon};
 use page_codec::LOG_START;
 
 /// Closes the gate and syncs that. At each moment only this byte changes.
@@ -257,7 +256,7 @@ impl Log {
         device.sync()?;
         self.at += len;
         self.waiting.clear();
-        self.images = ImageList::new();
+        self.images = reckon(&());
         self.laid = 0;
         self.written = false;
         self.ajar = false;

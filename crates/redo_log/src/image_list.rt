@@ -1,39 +1,31 @@
 //! The images that wait, as a list that only clauses read.
 
-ghost use Rattle.std.specs.Prelude.{◌≡◌, List, []};
-ghost use Rattle.std.specs.Borrow.{ftrue};
-ghost use Rattle.page_codec.specs.declared.page.Page.{Page};
-ghost use Rattle.redo_log.specs.Blocks.{with_images};
+ghost use Rattle.std.specs.Prelude.{[]};
 
+use index_model::{Noted, Reckons};
 use page_codec::Page;
-use std::marker::{Model, PhantomData};
+use std::marker::Model;
 
-/// The images that wait, one for each block. It takes no bytes.
-#[derive(Drop)]
-pub(crate) struct ImageList {
-    marker: PhantomData<u8>,
-    pub ghost images: { List Page },
-}
+/// The images that wait, one for each block. None is made: it is the type of one that is noted.
+pub(crate) struct ImageList {}
 
 impl Model for ImageList {
-    ghost also_owns = { λ _. ftrue };
+    ghost use Rattle.std.specs.Prelude.{List, []};
+    ghost use Rattle.page_codec.specs.declared.page.Page.{Page};
+
+    ghost Value = { List Page };
+
+    ghost view = { λ _. [] };
 }
 
-// It owns nothing.
-unsafe impl Send for ImageList {}
+/// No image.
+impl Reckons<()> for ImageList {
+    ghost reckoned = { λ _. [] };
+}
 
-impl ImageList {
-    /// No image.
-    pub fn new() -> ImageList
-        ensures { result.images ≡ [] }
-    {
-        ImageList {
-            marker: PhantomData,
-        }
-    }
+/// These too, each in the place of the image of its block.
+impl<'a> Reckons<(&'a Noted<ImageList>, &'a [Page])> for ImageList {
+    ghost use Rattle.redo_log.specs.Blocks.{with_images};
 
-    /// These too, each in the place of the image of its block.
-    pub fn take(&mut self, _images: &[Page])
-        ensures { self.new.images ≡ with_images self.old.images _images.now }
-    {}
+    ghost reckoned = { λ x. with_images x.0.now.value x.1.now };
 }

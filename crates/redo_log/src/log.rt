@@ -16,7 +16,7 @@ use crate::lay::lay_image;
 use crate::reading::note_groups;
 use crate::waiting::Waiting;
 use device::Device;
-use index_model::{Fault, Format};
+use index_model::{Fault, Format, Noted, reckon};
 use page_codec::{LOG_START, Page};
 use std::alloc::Global;
 
@@ -36,7 +36,7 @@ pub struct Log {
     /// The blocks whose images wait, one image for each.
     pub(crate) waiting: Waiting,
     /// These images.
-    pub(crate) images: ImageList,
+    pub(crate) images: Noted<ImageList>,
     /// How many of them are laid out in the buffer, from the first one on.
     pub(crate) laid: usize,
     /// The group that waits: room for the number, and its images, as far as they are laid out. What it has no
@@ -45,9 +45,9 @@ pub struct Log {
     ghost least: { 65536 ≤ format.log_bytes },
     ghost most: { format.log_bytes ≤ 16777216 },
     ghost reserved: { format.log_bytes ≤ vec_capacity buffer },
-    ghost named: { image_blocks images.images ≡ waiting.blocks.items },
+    ghost named: { image_blocks images.value ≡ waiting.blocks.items },
     ghost few_laid: { laid ≤ length waiting.blocks.items },
-    ghost laid_out: { AreLaid laid images.images buffer.items },
+    ghost laid_out: { AreLaid laid images.value buffer.items },
     ghost reaches: { ReachesPast laid buffer.items },
     ghost room: { at + 1 ≤ format.log_bytes },
     ghost fits: { 0 < length waiting.blocks.items
@@ -151,7 +151,7 @@ impl Log {
         }
         self.written = false;
         self.laid = 0;
-        self.images.take(images);
+        self.images = reckon(&(&self.images, images));
         self.waiting.take_all(images);
         self.actions += 1;
         Ok(self.actions)
@@ -259,7 +259,7 @@ impl Log {
             written: false,
             ajar: false,
             waiting,
-            images: ImageList::new(),
+            images: reckon(&()),
             laid: 0,
             buffer,
         })

@@ -2,4 +2,3 @@ pub mod Counting
 pub mod Fitting
 pub mod Queueing
 pub mod Rows
-pub mod Steps

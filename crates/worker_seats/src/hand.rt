@@ -1,8 +1,9 @@
 //! With what a worker tells a gate of its jobs.
-ghost use Rattle.std.specs.Prelude.{◌≡◌, ◌++◌, ◌∷◌, [], List, ℕ};
-ghost use Rattle.std.specs.Borrow.{ftrue};
 
-use std::marker::{Model, PhantomData};
+ghost use Rattle.std.specs.Prelude.{◌++◌, ◌∷◌, []};
+
+use index_model::{Noted, Reckons};
+use std::marker::Model;
 
 /// With what a worker tells a gate of the jobs that it takes.
 pub trait Telling {
@@ -12,36 +13,27 @@ pub trait Telling {
     ghost told: { Self → List ℕ };
 }
 
-/// The jobs that were told, which only clauses read. It takes no bytes.
-#[derive(Drop)]
-pub struct Told {
-    marker: PhantomData<u8>,
-    pub ghost jobs: { List ℕ },
-}
+/// The jobs that were told. None is made: it is the type of those that are noted, which only clauses read.
+pub struct Told {}
 
 impl Model for Told {
-    ghost also_owns = { λ _. ftrue };
+    ghost use Rattle.std.specs.Prelude.{List, ℕ, []};
+
+    ghost Value = { List ℕ };
+
+    ghost view = { λ _. [] };
 }
 
-// It owns nothing.
-unsafe impl Send for Told {}
-
-impl Telling for Told {
-    ghost told = { λ told. told.jobs };
+impl Telling for Noted<Told> {
+    ghost told = { λ hand. hand.value };
 }
 
-impl Told {
-    /// None was told.
-    pub fn new() -> Told
-        ensures { result.jobs ≡ [] }
-    {
-        Told {
-            marker: PhantomData,
-        }
-    }
+/// None was told.
+impl Reckons<()> for Told {
+    ghost reckoned = { λ _. [] };
+}
 
-    /// Notes a job more.
-    pub fn note(&mut self, _job: u64)
-        ensures { self.new.jobs ≡ self.old.jobs ++ _job ∷ [] }
-    {}
+/// A job more.
+impl<'a> Reckons<(&'a Noted<Told>, u32)> for Told {
+    ghost reckoned = { λ x. x.0.now.value ++ x.1 ∷ [] };
 }

@@ -78,10 +78,10 @@ returns-in-Err-clause-cause g c =
     HasCause (causes_of_read s (g.S.PageStore.backing c.loop-block.store) (g.S.PageStore.backing c.fetch.new.self) c.loop-block.block) c.in-Err.fault) old.state_is c.in-Err.ensures.cause)
 
 -- the page that is read stands at its block
-stored_here : (g : Over) (c : After-view g) → IsStored (g.S.PageStore.state c.args.store.now).format (0 + length c.loop-block.room.list.pages) c.view.result.now
+stored_here : (g : Over) (c : After-view g) → IsStored (g.S.PageStore.state c.args.store.now).format (0 + length c.loop-block.room.list.value) c.view.result.now
 stored_here g c =
     subst (λ (n : ℕ). IsStored (g.S.PageStore.state c.args.store.now).format n c.view.result.now)
-    (let e : c.loop-block.block ≡ 0 + length c.loop-block.room.list.pages = omega (arith, c.loop-block.invariant.count) in e)
+    (let e : c.loop-block.block ≡ 0 + length c.loop-block.room.list.value = omega (arith, c.loop-block.invariant.count) in e)
     (subst (λ (s : State). IsStored s.format c.loop-block.block c.view.result.now) (c.fetch.ensures.state ∙ c.loop-block.invariant.state_is) c.view.ensures.stored)
 
 pub add-requires-clause-page : goal.add-requires-clause-page
@@ -95,13 +95,13 @@ loop-block-preserved g c =
     let on = later_on g before in
     let same_state = c.fetch.ensures.state ∙ old.state_is in
     let page = c.view.result.now in
-    let items : c.add.new.self.list.pages ≡ c.loop-block.room.list.pages ++ page ∷ [] = c.add.ensures.list in
+    let items : c.add.new.self.list.value ≡ c.loop-block.room.list.value ++ page ∷ [] = c.add.ensures.list in
     record {
       steps = λ first f. c.fetch.ensures.steps first (old.steps first f);
       state_is = same_state;
-      count = (let size = ap length items in omega (arith, size, length-append c.loop-block.room.list.pages (page ∷ []), old.count));
+      count = (let size = ap length items in omega (arith, size, length-append c.loop-block.room.list.value (page ∷ []), old.count));
       stored = subst (AreStored (g.S.PageStore.state c.args.store.now).format 0) (sym items)
-          (stored-add (g.S.PageStore.state c.args.store.now).format 0 c.loop-block.room.list.pages page old.stored (stored_here g (goal.at.loop-block-preserved g c).After-view));
+          (stored-add (g.S.PageStore.state c.args.store.now).format 0 c.loop-block.room.list.value page old.stored (stored_here g (goal.at.loop-block-preserved g c).After-view));
       same = λ honest. items ∙ ap (λ (ps : List Page). ps ++ page ∷ []) (old.same (on.honest honest))
           ∙ take_get pages c.loop-block.block page (ap (λ (s : State). slice_get s.pages c.loop-block.block) (sym same_state) ∙ c.view.ensures.page honest);
       room_is = subst (HasPageRoom c.add.new.self) c.used-used.ensures c.add.ensures.room;

@@ -9,9 +9,9 @@ invariant-loop-block g l =
     record {
       steps : Continues g.S.PageStore.follows l.fn.store l.store;
       state_is : state l.store ≡ state l.fn.store;
-      count : length l.room.list.pages ≡ l.block;
-      stored : AreStored (state l.fn.store).format 0 l.room.list.pages;
-      same : (backing l.store).honest ≡ true → l.room.list.pages ≡ take l.block (state l.fn.store).pages;
+      count : length l.room.list.value ≡ l.block;
+      stored : AreStored (state l.fn.store).format 0 l.room.list.value;
+      same : (backing l.store).honest ≡ true → l.room.list.value ≡ take l.block (state l.fn.store).pages;
       room_is : HasPageRoom l.room (length (state l.fn.store).pages);
       kept : KeepsRoom (state l.fn.store) (backing l.fn.store) (backing l.store);
       frames : TakesFrames (state l.fn.store).frames (pinned_blocks (state l.fn.store).table) (blocks_below l.block)

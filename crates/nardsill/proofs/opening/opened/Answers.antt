@@ -9,7 +9,7 @@ use Rattle.nardsill.proofs.opening.opened.Goals as goal
 pub returns-in-Ok-open-clause-begins : goal.returns-in-Ok-open-clause-begins
 returns-in-Ok-open-clause-begins g c =
     let len = c.in-Ok-with_syncer.ensures.len in
-    let held = ap (λ (n : ℕ). after_calls (g.S.Start.bytes n) c.in-Ok-with_syncer.device.events.list) len
+    let held = ap (λ (n : ℕ). after_calls (g.S.Start.bytes n) c.in-Ok-with_syncer.device.events.value) len
     ∙ ap (λ (es : List Event). after_calls (g.S.Start.bytes c.in-Ok.device.len) es) c.in-Ok-with_syncer.ensures.calls
     ∙ c.in-Ok.ensures.held ∙ sym (ap (λ (n : ℕ). first (g.S.Start.bytes n)) len) in
     let seen = ap (λ (t : Trace). t.now.seen) held in

@@ -8,6 +8,6 @@ invariant_of-log-2 c =
     let s = c.args.log.now in
     let pages = c.args.pages.now in
     record {
-      same = subst (λ (l : List Page). AreAlike l c.append.new.self.images.images) (sym (c.copy_all.ensures ∙ ap (λ (l : List Page). l ++ pages) c.reserve.ensures.items))
+      same = subst (λ (l : List Page). AreAlike l c.append.new.self.images.value) (sym (c.copy_all.ensures ∙ ap (λ (l : List Page). l ++ pages) c.reserve.ensures.items))
           (subst (AreAlike (s.pages.items ++ pages)) (sym c.in_ok-number.ensures.images) (alike_more s.log s.pages.items pages s.same));
     }

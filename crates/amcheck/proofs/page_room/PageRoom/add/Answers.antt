@@ -18,7 +18,7 @@ returns-clause-room c =
     record {
       sketches = subst (λ (n : ℕ). c.args.used ≤ n) (sym c.push_reserved.ensures.capacity) c.requires.room.sketches;
       whole = subst (λ (n : ℕ). c.args.used ≤ n) (sym c.keep_links-place.ensures.room) c.requires.room.whole;
-      kept = kept_more c.args.self.now.list.pages c.args.self.now.whole.items c.args.self.now.sketches.items c.args.page.now c.sketch_of.result
-          c.note.new.self.pages whole c.push_reserved.new.self.items
-          old c.keep_links-place.ensures.grown new (c.note.ensures ∙ ap (λ (ps : List Page). c.args.self.now.list.pages ++ ps) c.from_ref.ensures.value) c.push_reserved.ensures.items;
+      kept = kept_more c.args.self.now.list.value c.args.self.now.whole.items c.args.self.now.sketches.items c.args.page.now c.sketch_of.result
+          c.reckon-self.result.value whole c.push_reserved.new.self.items
+          old c.keep_links-place.ensures.grown new (c.reckon-self.ensures ∙ ap (λ (ps : List Page). c.args.self.now.list.value ++ ps) c.from_ref.ensures.value) c.push_reserved.ensures.items;
     }

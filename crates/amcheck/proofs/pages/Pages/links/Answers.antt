@@ -10,11 +10,11 @@ found c = slice_get_at c.self.inside.sketches.items c.args.block c.index.result.
 -- its downlinks stand at the place that the sketch names
 kept_at : (c : After-index) → links_at c.self.inside.whole.items c.index.result.now.place ≡ (nodes_of c.args.self.now c.args.block).links
 kept_at c =
-    links_are c.self.inside.list.pages c.self.inside.whole.items c.self.inside.sketches.items c.self.invariant c.args.block c.index.result.now (found c)
+    links_are c.self.inside.list.value c.self.inside.whole.items c.self.inside.sketches.items c.self.invariant c.args.block c.index.result.now (found c)
     ∙ ap (λ (ps : List Page). (nodes_of ps c.args.block).links) c.self.view_is
 
 inside : (c : After-index) (place : ℕ) → c.index.result.now.place ≡ Some place → place < length c.self.inside.whole.items
-inside c place is = place_inside c.self.inside.list.pages c.self.inside.whole.items c.self.inside.sketches.items c.self.invariant c.args.block c.index.result.now (found c) place is
+inside c place is = place_inside c.self.inside.list.value c.self.inside.whole.items c.self.inside.sketches.items c.self.invariant c.args.block c.index.result.now (found c) place is
 
 pub index-requires-in-Some : goal.index-requires-in-Some
 index-requires-in-Some c = (let lt = inside (goal.at.index-requires-in-Some c).After-index c.in-Some.place c.in-Some.is in omega (arith, lt))

@@ -11,13 +11,13 @@ found c = slice_get_at c.self.inside.sketches.items c.args.block c.index.result.
 pub returns-clause-is : goal.returns-clause-is
 returns-clause-is c =
     subst (λ (ps : List Page). IsSketch (nodes_of ps c.args.block) c.index.result.now) c.self.view_is
-    (sketch_is c.self.inside.list.pages c.self.inside.whole.items c.self.inside.sketches.items c.self.invariant c.args.block c.index.result.now (found (goal.at.returns-clause-is c).After-index))
+    (sketch_is c.self.inside.list.value c.self.inside.whole.items c.self.inside.sketches.items c.self.invariant c.args.block c.index.result.now (found (goal.at.returns-clause-is c).After-index))
 
 pub returns-clause-entries : goal.returns-clause-entries
 returns-clause-entries c page is =
-    entries_are c.self.inside.list.pages c.self.inside.whole.items c.self.inside.sketches.items c.self.invariant c.args.block c.index.result.now (found (goal.at.returns-clause-entries c).After-index)
+    entries_are c.self.inside.list.value c.self.inside.whole.items c.self.inside.sketches.items c.self.invariant c.args.block c.index.result.now (found (goal.at.returns-clause-entries c).After-index)
     page (ap (λ (ps : List Page). slice_get ps c.args.block) c.self.view_is ∙ is)
 
 pub returns-clause-few : goal.returns-clause-few
 returns-clause-few c =
-    entries_few c.self.inside.list.pages c.self.inside.whole.items c.self.inside.sketches.items c.self.invariant c.args.block c.index.result.now (found (goal.at.returns-clause-few c).After-index)
+    entries_few c.self.inside.list.value c.self.inside.whole.items c.self.inside.sketches.items c.self.invariant c.args.block c.index.result.now (found (goal.at.returns-clause-few c).After-index)

@@ -6,7 +6,7 @@ use Rattle.device.proofs.memory.MemDevice.crash.Goals as goal
 pub torn_image-made-requires : goal.torn_image-made-requires
 torn_image-made-requires c =
     let m = c.args.self.now in
-    since_inside m.past.start m.past.calls m.inside c.deref-in-Tear.result.now (writes_of c.deref-in-Tear-2.result.now)
+    since_inside m.past.value.start m.past.value.calls m.inside c.deref-in-Tear.result.now (writes_of c.deref-in-Tear-2.result.now)
     (c.deref-in-Tear.ensures.value ∙ m.firm_is) (ap writes_of c.deref-in-Tear-2.ensures.value ∙ m.since_is)
 
 pub returns-in_default-clause-left : goal.returns-in_default-clause-left

@@ -1,25 +1,20 @@
-use Rattle.std.proofs.Common.{◌≡◌, ◌+◌, sym, subst, ap, ◌∙◌, ◌∷◌, ◌++◌, [], length, length-set, arith, List}
-use Rattle.page_store.proofs.Imports.{Page, AreStored, Numbers, AreWaiting, waiting_number, add_waits, stored-add, stored_at, History}
-use Rattle.page_store.proofs.log_room.StoreRoom.add.Goals.{After-begin}
+use Rattle.std.proofs.Common.{◌+◌, sym, subst, ap, ◌∷◌, ◌++◌, [], length, length-set, arith}
+use Rattle.page_store.proofs.Imports.{AreStored, Numbers, AreWaiting, waiting_number, add_waits, stored-add, stored_at, History}
 use Rattle.page_store.proofs.log_room.StoreRoom.add.Goals as goal
-
--- the pages with one more
-more : (c : After-begin) → c.begin.new.self.start ≡ c.args.self.now.history.start ++ c.args.page.now ∷ []
-more c = ap (λ (h : History). h.start) c.begin.ensures ∙ ap (λ (ps : List Page). c.args.self.now.history.start ++ ps) c.from_ref.ensures.value
 
 pub invariant_of-self-clause-stored : goal.invariant_of-self-clause-stored
 invariant_of-self-clause-stored c =
     let room = c.args.self.now in
-    subst (λ (pages : List Page). AreStored room.format 0 pages) (sym (more (goal.at.invariant_of-self-clause-stored c).After-begin))
-    (stored-add room.format 0 room.history.start c.args.page.now room.stored
-    (stored_at room.format (0 + length room.history.start) c.args.page.now (c.is_storable.ensures.0 c.if-not-is_storable.false) (omega arith)))
+    subst (λ (history : History). AreStored room.format 0 history.start) (sym c.reckon-self.ensures)
+    (stored-add room.format 0 room.history.value.start c.args.page.now room.stored
+    (stored_at room.format (0 + length room.history.value.start) c.args.page.now (c.is_storable.ensures.0 c.if-not-is_storable.false) (omega arith)))
 
 pub invariant_of-self-clause-waiting : goal.invariant_of-self-clause-waiting
 invariant_of-self-clause-waiting c =
     let room = c.args.self.now in
-    subst (λ (pages : List Page). AreWaiting c.add.new.self.waiting pages c.add.new.self.counted) (sym (more (goal.at.invariant_of-self-clause-waiting c).After-begin))
-    (subst (λ (numbers : Numbers). AreWaiting numbers.waiting (room.history.start ++ c.args.page.now ∷ []) numbers.counted) (sym c.add.ensures)
-    (add_waits room.numbers.waiting room.history.start room.numbers.counted c.args.page.now room.waiting room.many_counts (omega arith)))
+    subst (λ (history : History). AreWaiting c.add.new.self.waiting history.start c.add.new.self.counted) (sym c.reckon-self.ensures)
+    (subst (λ (numbers : Numbers). AreWaiting numbers.waiting (room.history.value.start ++ c.args.page.now ∷ []) numbers.counted) (sym c.add.ensures)
+    (add_waits room.numbers.waiting room.history.value.start room.numbers.counted c.args.page.now room.waiting room.many_counts (omega arith)))
 
 pub invariant_of-self-clause-count_room : goal.invariant_of-self-clause-count_room
 invariant_of-self-clause-count_room c =

@@ -21,7 +21,7 @@ use Rattle.page_store.proofs.Misfits.{room_left}
 use Rattle.page_store.proofs.FollowLaws.{follows_log}
 use Rattle.page_store.proofs.Logging.{blocks_changed, no_room, alive_full, full_is}
 use Rattle.page_store.proofs.logged_pages.LoggedPages.act.Given.{Over}
-use Rattle.page_store.proofs.logged_pages.LoggedPages.act.Goals.{After-note}
+use Rattle.page_store.proofs.logged_pages.LoggedPages.act.Goals.{After-reckon-self}
 use Rattle.page_store.proofs.logged_pages.LoggedPages.act.Goals as goal
 
 pub append-requires : goal.append-requires
@@ -41,24 +41,24 @@ used_after-self-requires g c = record {
 }
 
 -- the pages after the act
-pages_are : (g : Over) (c : After-note g) → pages_now c.note.new.self ≡ with_pages (pages_now c.args.self.now.history) c.args.pages.now
-pages_are g c = ap pages_now c.note.ensures ∙ pages_acted c.args.self.now.history c.args.pages.now
+pages_are : (g : Over) (c : After-reckon-self g) → pages_now c.reckon-self.result.value ≡ with_pages (pages_now c.args.self.now.history.value) c.args.pages.now
+pages_are g c = ap pages_now c.reckon-self.ensures ∙ pages_acted c.args.self.now.history.value c.args.pages.now
 
-number_is : (g : Over) (c : After-note g) → c.in_ok-number.number ≡ suc c.args.self.now.acts
+number_is : (g : Over) (c : After-reckon-self g) → c.in_ok-number.number ≡ suc c.args.self.now.acts
 number_is g c = c.in_ok-number.ensures.number ∙ ap suc (sym c.args.self.now.counted)
 
 -- they are stored, and not too many
-stored : (g : Over) (c : After-note g) → AreStored c.args.self.now.format 0 (with_pages (pages_now c.args.self.now.history) c.args.pages.now)
-    × (length (with_pages (pages_now c.args.self.now.history) c.args.pages.now) ≤ c.args.self.now.format.pages)
+stored : (g : Over) (c : After-reckon-self g) → AreStored c.args.self.now.format 0 (with_pages (pages_now c.args.self.now.history.value) c.args.pages.now)
+    × (length (with_pages (pages_now c.args.self.now.history.value) c.args.pages.now) ≤ c.args.self.now.format.pages)
 stored g c =
     let held = c.args.self.now in
-    stored-with_pages held.format (length (pages_now held.history)) (pages_now held.history) c.args.pages.now c.requires.actable (omega arith)
+    stored-with_pages held.format (length (pages_now held.history.value)) (pages_now held.history.value) c.args.pages.now c.requires.actable (omega arith)
     held.stored (subst (λ (n : ℕ). n ≤ held.format.pages) held.used_is held.few)
 
-used : (g : Over) (c : After-note g) → c.used_after-self.result ≡ length (with_pages (pages_now c.args.self.now.history) c.args.pages.now)
+used : (g : Over) (c : After-reckon-self g) → c.used_after-self.result ≡ length (with_pages (pages_now c.args.self.now.history.value) c.args.pages.now)
 used g c =
     let held = c.args.self.now in
-    let pages = pages_now held.history in
+    let pages = pages_now held.history.value in
     c.used_after-self.ensures ∙ (ap (λ (n : ℕ). used_after n c.args.pages.now) held.used_is ∙ sym (length_acted held.format (length pages) pages c.args.pages.now c.requires.actable (omega arith)))
 
 pub invariant_of-self-2-clause-log_format : goal.invariant_of-self-2-clause-log_format
@@ -66,24 +66,24 @@ invariant_of-self-2-clause-log_format g c = c.in_ok-number.ensures.format ∙ c.
 
 pub invariant_of-self-2-clause-stored : goal.invariant_of-self-2-clause-stored
 invariant_of-self-2-clause-stored g c =
-    let here = (goal.at.invariant_of-self-2-clause-stored g c).After-note in
+    let here = (goal.at.invariant_of-self-2-clause-stored g c).After-reckon-self in
     subst (AreStored c.args.self.now.format 0) (sym (pages_are g here)) (stored g here).0
 
 pub invariant_of-self-2-clause-used_is : goal.invariant_of-self-2-clause-used_is
 invariant_of-self-2-clause-used_is g c =
-    let here = (goal.at.invariant_of-self-2-clause-used_is g c).After-note in
+    let here = (goal.at.invariant_of-self-2-clause-used_is g c).After-reckon-self in
     used g here ∙ sym (ap length (pages_are g here))
 
 pub invariant_of-self-2-clause-few : goal.invariant_of-self-2-clause-few
 invariant_of-self-2-clause-few g c =
-    let here = (goal.at.invariant_of-self-2-clause-few g c).After-note in
+    let here = (goal.at.invariant_of-self-2-clause-few g c).After-reckon-self in
     subst (λ (n : ℕ). n ≤ c.args.self.now.format.pages) (sym (used g here)) (stored g here).1
 
 pub invariant_of-self-2-clause-holds : goal.invariant_of-self-2-clause-holds
 invariant_of-self-2-clause-holds g c =
-    let here = (goal.at.invariant_of-self-2-clause-holds g c).After-note in
+    let here = (goal.at.invariant_of-self-2-clause-holds g c).After-reckon-self in
     let held = c.args.self.now in
-    let pages = pages_now held.history in
+    let pages = pages_now held.history.value in
     let pool = c.change_all.new.pool in
     let m = (g.D.Device.trace held.device).now in
     let honest = g.D.Device.is_honest held.device in
@@ -94,20 +94,20 @@ invariant_of-self-2-clause-holds g c =
 
 pub invariant_of-self-2-clause-waits : goal.invariant_of-self-2-clause-waits
 invariant_of-self-2-clause-waits g c =
-    let here = (goal.at.invariant_of-self-2-clause-waits g c).After-note in
+    let here = (goal.at.invariant_of-self-2-clause-waits g c).After-reckon-self in
     let held = c.args.self.now in
     subst (λ (l : List Page). HoldsWaiting l held.durable c.change_all.new.pool) (sym c.in_ok-number.ensures.images)
     (waits_acted held.log c.args.pages.now held.durable c.in_ok-number.number held.pool c.change_all.new.pool (omega (arith, number_is g here, held.not_ahead)) held.waits c.change_all.ensures)
 
 pub returns-clause-steps : goal.returns-clause-steps
 returns-clause-steps g c =
-    let here = (goal.at.returns-clause-steps g c).After-note in
+    let here = (goal.at.returns-clause-steps g c).After-reckon-self in
     let held = c.args.self.now in
     follows_act (held_of g.D.Device held) c.append.new.self c.args.pages.now c.room-self.result c.room-self.result c.append.ensures.format c.append.ensures.stopped
     (λ m acts forced k. c.in_ok-number.ensures.keeps m acts forced k)
-    (subst (λ (l : Format). AreActable l (length (pages_now held.history)) c.args.pages.now) (sym held.log_format) c.requires.actable)
+    (subst (λ (l : Format). AreActable l (length (pages_now held.history.value)) c.args.pages.now) (sym held.log_format) c.requires.actable)
     _ _ (λ block named. c.change_all.ensures.acted block named ∙ number_is g here) (λ block none. c.change_all.ensures.before block none)
-    c.in_ok-number.number c.note.new.self (number_is g here) c.note.ensures
+    c.in_ok-number.number c.reckon-self.result.value (number_is g here) c.reckon-self.ensures
 
 pub returns-clause-room : goal.returns-clause-room
 returns-clause-room g c =
@@ -118,7 +118,7 @@ returns-clause-room g c =
     c.in_ok-number.ensures.room c.room-self.ensures.no_more
 
 pub returns-clause-pages : goal.returns-clause-pages
-returns-clause-pages g c = pages_are g (goal.at.returns-clause-pages g c).After-note
+returns-clause-pages g c = pages_are g (goal.at.returns-clause-pages g c).After-reckon-self
 
 pub returns-clause-waiting : goal.returns-clause-waiting
 returns-clause-waiting g c = c.in_ok-number.ensures.blocks ∙ blocks_changed (waiting_blocks c.args.self.now.log) c.args.pages.now

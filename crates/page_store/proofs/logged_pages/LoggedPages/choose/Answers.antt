@@ -10,7 +10,7 @@ use Rattle.page_store.proofs.logged_pages.LoggedPages.choose.Goals as goal
 pub invariant_of-self-clause-holds : goal.invariant_of-self-clause-holds
 invariant_of-self-clause-holds g c =
     let held = c.args.self.now in
-    holds_same held.format (pages_now held.history) held.acts held.pool c.choose.new.self _ _ held.holds c.choose.ensures.pages c.choose.ensures.changes.acts
+    holds_same held.format (pages_now held.history.value) held.acts held.pool c.choose.new.self _ _ held.holds c.choose.ensures.pages c.choose.ensures.changes.acts
 
 pub invariant_of-self-clause-waits : goal.invariant_of-self-clause-waits
 invariant_of-self-clause-waits g c =

@@ -44,7 +44,7 @@ invariant_of-self g c =
       used_is = held.used_is;
       few = held.few;
       reach = held.reach;
-      holds = holds_logged held.format (pages_now held.history) held.acts held.pool _ (g.D.Device.trace held.device).now
+      holds = holds_logged held.format (pages_now held.history.value) held.acts held.pool _ (g.D.Device.trace held.device).now
           (g.D.Device.trace c.reset.new.device).now held.holds _ c.reset.ensures.honest (only g (goal.at.invariant_of-self g c).After-reset);
       waits = subst (λ (l : List Page). HoldsWaiting l held.durable held.pool) (sym c.reset.ensures.images) held.waits;
       counted = search rules;
@@ -69,7 +69,7 @@ invariant_of-self-2-clause-log_format g c = c.reset.ensures.same.format ∙ c.ar
 pub invariant_of-self-2-clause-holds : goal.invariant_of-self-2-clause-holds
 invariant_of-self-2-clause-holds g c =
     let held = c.args.self.now in
-    holds_logged held.format (pages_now held.history) held.acts held.pool _ (g.D.Device.trace held.device).now
+    holds_logged held.format (pages_now held.history.value) held.acts held.pool _ (g.D.Device.trace held.device).now
     (g.D.Device.trace c.reset.new.device).now held.holds _ c.reset.ensures.honest (only g (goal.at.invariant_of-self-2-clause-holds g c).After-reset)
 
 pub invariant_of-self-2-clause-waits : goal.invariant_of-self-2-clause-waits

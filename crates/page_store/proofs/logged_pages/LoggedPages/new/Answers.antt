@@ -9,21 +9,21 @@ use Rattle.page_store.proofs.logged_pages.LoggedPages.new.Goals as goal
 pub returns-clause-own : goal.returns-clause-own
 returns-clause-own g c =
     let log_format = sym c.requires.log_format in
-    is_own _ (subst (λ (l : Format). AreStored l 0 c.args.history.start) log_format c.requires.stored)
-    (subst (λ (l : Format). length c.args.history.start ≤ l.pages) log_format (subst (λ n. n ≤ c.args.format.pages) c.requires.used c.requires.few))
+    is_own _ (subst (λ (l : Format). AreStored l 0 c.args.history.value.start) log_format c.requires.stored)
+    (subst (λ (l : Format). length c.args.history.value.start ≤ l.pages) log_format (subst (λ n. n ≤ c.args.format.pages) c.requires.used c.requires.few))
     (subst (λ (l : Format). place l l.pages ≤ length (g.D.Device.trace c.args.device).now.seen) log_format c.requires.sized)
     (none_changed c.args.pool c.law.ensures c.requires.empty) c.requires.begun refl refl
 
 pub invariant_of-result-clause-stored : goal.invariant_of-result-clause-stored
-invariant_of-result-clause-stored g c = subst (λ (ps : List Page). AreStored c.args.format 0 ps) (sym (pages_opened c.args.history c.requires.begun)) c.requires.stored
+invariant_of-result-clause-stored g c = subst (λ (ps : List Page). AreStored c.args.format 0 ps) (sym (pages_opened c.args.history.value c.requires.begun)) c.requires.stored
 
 pub invariant_of-result-clause-used_is : goal.invariant_of-result-clause-used_is
-invariant_of-result-clause-used_is g c = c.requires.used ∙ ap length (sym (pages_opened c.args.history c.requires.begun))
+invariant_of-result-clause-used_is g c = c.requires.used ∙ ap length (sym (pages_opened c.args.history.value c.requires.begun))
 
 pub invariant_of-result-clause-holds : goal.invariant_of-result-clause-holds
 invariant_of-result-clause-holds g c =
-    subst (λ (ps : List Page). HoldsPages c.args.format ps 0 c.args.pool (g.D.Device.is_honest c.args.device) (g.D.Device.trace c.args.device).now) (sym (pages_opened c.args.history c.requires.begun))
-    (holds_opened c.args.format c.args.history.start c.args.pool (g.D.Device.is_honest c.args.device) (g.D.Device.trace c.args.device).now c.law.ensures c.requires.empty c.requires.seen)
+    subst (λ (ps : List Page). HoldsPages c.args.format ps 0 c.args.pool (g.D.Device.is_honest c.args.device) (g.D.Device.trace c.args.device).now) (sym (pages_opened c.args.history.value c.requires.begun))
+    (holds_opened c.args.format c.args.history.value.start c.args.pool (g.D.Device.is_honest c.args.device) (g.D.Device.trace c.args.device).now c.law.ensures c.requires.empty c.requires.seen)
 
 pub invariant_of-result-clause-waits : goal.invariant_of-result-clause-waits
 invariant_of-result-clause-waits g c = waits_nothing _ 0 c.args.pool (waits_none c.args.log c.requires.idle)

@@ -10,7 +10,7 @@ use Rattle.page_store.proofs.logged_pages.LoggedPages.note_use.Goals as goal
 pub invariant_of-self-clause-holds : goal.invariant_of-self-clause-holds
 invariant_of-self-clause-holds g c =
     let held = c.args.self.now in
-    holds_same held.format (pages_now held.history) held.acts held.pool c.note_use.new.self _ _ held.holds c.note_use.ensures.pages c.note_use.ensures.changes.acts
+    holds_same held.format (pages_now held.history.value) held.acts held.pool c.note_use.new.self _ _ held.holds c.note_use.ensures.pages c.note_use.ensures.changes.acts
 
 pub invariant_of-self-clause-waits : goal.invariant_of-self-clause-waits
 invariant_of-self-clause-waits g c =

@@ -12,7 +12,7 @@ use Rattle.page_store.proofs.logged_pages.LoggedPages.note_written.Goals as goal
 pub invariant_of-self-clause-holds : goal.invariant_of-self-clause-holds
 invariant_of-self-clause-holds g c =
     let held = c.args.self.now in
-    let pages = pages_now held.history in
+    let pages = pages_now held.history.value in
     let m = (g.D.Device.trace held.device).now in
     let honest = g.D.Device.is_honest held.device in
     holds_noted held.format pages held.acts held.pool c.note_written.new.self honest m held.holds c.note_written.ensures.pages
@@ -28,7 +28,7 @@ invariant_of-self-clause-waits g c =
 pub returns-clause-quiet : goal.returns-clause-quiet
 returns-clause-quiet g c =
     let held = c.args.self.now in
-    let pages = pages_now held.history in
+    let pages = pages_now held.history.value in
     let m = (g.D.Device.trace held.device).now in
     let honest = g.D.Device.is_honest held.device in
     let noted = written_noted held.format pages held.acts held.pool honest m held.holds c.law.ensures c.note_written.new.self c.args.place

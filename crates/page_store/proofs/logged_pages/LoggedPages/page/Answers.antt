@@ -11,5 +11,5 @@ returns-clause-stored g c =
 pub returns-clause-page : goal.returns-clause-page
 returns-clause-page g c honest =
     let held = c.args.self.now in
-    held_is held.format (pages_now held.history) held.acts held.pool (g.D.Device.is_honest held.device) (g.D.Device.trace held.device).now held.holds held.stored
+    held_is held.format (pages_now held.history.value) held.acts held.pool (g.D.Device.is_honest held.device) (g.D.Device.trace held.device).now held.holds held.stored
     c.args.block c.page.result.now (subst (λ (n : ℕ). c.args.block < n) held.used_is c.requires.used) (sym c.in-Some.ensures.held ∙ c.page.ensures) honest

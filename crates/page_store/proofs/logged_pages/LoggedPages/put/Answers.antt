@@ -11,7 +11,7 @@ use Rattle.page_store.proofs.logged_pages.LoggedPages.put.Goals as goal
 pub invariant_of-self-clause-holds : goal.invariant_of-self-clause-holds
 invariant_of-self-clause-holds g c =
     let held = c.args.self.now in
-    holds_put held.format (pages_now held.history) held.acts held.pool c.put.new.self _ _ _ c.args.at c.args.self.now.decoded.value held.holds
+    holds_put held.format (pages_now held.history.value) held.acts held.pool c.put.new.self _ _ _ c.args.at c.args.self.now.decoded.value held.holds
     (subst (λ (page : Page). IsPut held.pool c.put.new.self c.args.at page) c.deref.ensures c.put.ensures) (λ h. h) (λ used. c.requires.stored) c.requires.right
     (clean_of_absent held.pool c.law.ensures c.args.self.now.decoded.value.block c.requires.absent)
 

@@ -11,14 +11,14 @@ use Rattle.page_store.proofs.logged_pages.LoggedPages.read.Goals.{After-read_pag
 use Rattle.page_store.proofs.logged_pages.LoggedPages.read.Goals as goal
 
 -- the page that is in use at the block
-the_page : (g : Over) (c : After-read_page g) → (page : Page) × (slice_get (pages_now c.args.self.now.history) c.args.block ≡ Some page)
-the_page g c = page_in_use (pages_now c.args.self.now.history) c.args.block (subst (λ (n : ℕ). c.args.block < n) c.args.self.now.used_is c.requires.used)
+the_page : (g : Over) (c : After-read_page g) → (page : Page) × (slice_get (pages_now c.args.self.now.history.value) c.args.block ≡ Some page)
+the_page g c = page_in_use (pages_now c.args.self.now.history.value) c.args.block (subst (λ (n : ℕ). c.args.block < n) c.args.self.now.used_is c.requires.used)
 
 -- a device that keeps its model gives it, or fails
 gives : (g : Over) (c : After-read_page g) → g.D.Device.is_honest c.read_page.new.device ≡ true → GivesPage (the_page g c).0 c.read_page.new.page c.read_page.result
 gives g c honest =
     let held = c.args.self.now in
-    read_gives held.format (pages_now held.history) held.acts held.pool (g.D.Device.is_honest held.device) (g.D.Device.trace held.device).now held.holds held.stored
+    read_gives held.format (pages_now held.history.value) held.acts held.pool (g.D.Device.is_honest held.device) (g.D.Device.trace held.device).now held.holds held.stored
     c.args.block (the_page g c).0 c.read_page.new.page c.read_page.result (the_page g c).1 (clean_of_absent held.pool c.law.ensures c.args.block c.requires.absent) (c.read_page.ensures.honest honest)
     (λ there stored has. c.read_page.ensures.read honest there stored has)
 
@@ -31,7 +31,7 @@ returns-clause-quiet g c =
 pub returns-clause-right : goal.returns-clause-right
 returns-clause-right g c =
     let here = (goal.at.returns-clause-right g c).After-read_page in
-    given_right (pages_now c.args.self.now.history) c.args.block (the_page g here).0 c.read_page.new.page
+    given_right (pages_now c.args.self.now.history.value) c.args.block (the_page g here).0 c.read_page.new.page
     (g.D.Device.is_honest c.read_page.new.device) c.read_page.result (the_page g here).1 (gives g here)
 
 pub returns-clause-honest : goal.returns-clause-honest

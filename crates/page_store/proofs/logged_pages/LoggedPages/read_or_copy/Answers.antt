@@ -11,7 +11,7 @@ not_io (Err f) e b is damaged io = (let both : Err (PageDamaged b) ≡ Err Io = 
 pub returns-then-page-self-clause-right : goal.returns-then-page-self-clause-right
 returns-then-page-self-clause-right g c honest there found =
     let held = c.args.self.now in
-    absurd (omega (arith, slice_get_within (pages_now held.history) c.args.page.now.block there found, held.used_is, c.if-page-self.true))
+    absurd (omega (arith, slice_get_within (pages_now held.history.value) c.args.page.now.block there found, held.used_is, c.if-page-self.true))
 
 pub returns-in-Err-PageDamaged-clause-quiet : goal.returns-in-Err-PageDamaged-clause-quiet
 returns-in-Err-PageDamaged-clause-quiet g c =

@@ -52,7 +52,7 @@ returns-in_err-write_home-clause-home g c =
     let m = (g.D.Device.trace held.device).now in
     let n = (g.D.Device.trace c.write_home.new.self.device).now in
     moved _ _ _ _ c.loop-written.written n c.loop-written.invariant.same.pages.format c.loop-written.invariant.same.pool
-    (up_to_same held.format (pages_now held.history) held.acts held.pool (g.D.Device.is_honest held.device) m held.holds (law g here) n
+    (up_to_same held.format (pages_now held.history.value) held.acts held.pool (g.D.Device.is_honest held.device) m held.holds (law g here) n
     c.loop-written.written c.in-Some.block (at g here) (before g here) c.write_home.ensures.only)
 
 pub returns-in_err-write_home-clause-steps : goal.returns-in_err-write_home-clause-steps
@@ -87,7 +87,7 @@ loop-written-preserved g c =
       few = omega (arith, c.loop-written-test.true, c.changed-count.ensures);
       home = subst (λ (k : ℕ). AreWrittenUpTo c.args.self.now.format c.args.self.now.pool k n) more
           (moved _ _ _ _ (suc c.loop-written.written) n i.same.pages.format i.same.pool
-          (up_to_next held.format (pages_now held.history) held.acts held.pool (g.D.Device.is_honest held.device) m held.holds (law g here) n
+          (up_to_next held.format (pages_now held.history.value) held.acts held.pool (g.D.Device.is_honest held.device) m held.holds (law g here) n
           c.loop-written.written c.in-Some.block (at g here) (before g here)
           (λ page found. c.in_ok-write_home.ensures.written page found) c.write_home.ensures.only));
       failures = c.in_ok-write_home.ensures.failures ∙ i.failures;

@@ -12,7 +12,7 @@ use Rattle.page_store.proofs.store.StorePageStore.act.Goals.{After-take_frames, 
 use Rattle.page_store.proofs.store.StorePageStore.act.Goals as goal
 
 -- a frame for each page leaves the pages as they were
-same_pages : (g : Over) (c : After-take_frames g) → pages_now c.take_frames.new.self.held.history ≡ pages_now c.args.self.now.held.history
+same_pages : (g : Over) (c : After-take_frames g) → pages_now c.take_frames.new.self.held.history.value ≡ pages_now c.args.self.now.held.history.value
 same_pages g c = ap pages_now c.take_frames.ensures.quiet.pages.history
 
 -- frames were taken and the act was logged or not
@@ -20,7 +20,7 @@ steps : (g : Over) (c : After-act g) → Follows (held_by g.D.Device c.args.self
 steps g c = follows_both _ (held_by g.D.Device c.take_frames.new.self) _ c.take_frames.ensures.quiet.follows c.act.ensures.steps
 
 -- the pages after the act
-pages_are : (g : Over) (c : After-note g) → pages_now c.act.new.self.history ≡ with_pages (pages_now c.args.self.now.held.history) c.args.pages.now
+pages_are : (g : Over) (c : After-note g) → pages_now c.act.new.self.history.value ≡ with_pages (pages_now c.args.self.now.held.history.value) c.args.pages.now
 pages_are g c = c.in_ok-number.ensures.pages ∙ ap (λ (ps : List Page). with_pages ps c.args.pages.now) (same_pages g (goal.at.After-note g c).After-take_frames)
 
 -- the calls after it
@@ -37,13 +37,13 @@ invariant_of-self-2-clause-counts g c =
     let here = (goal.at.invariant_of-self-2-clause-counts g c).After-note in
     let store = c.args.self.now in
     ap (λ (t : TableOfCalls). length t.counted) (calls_are g here)
-    ∙ (length-with_counts store.calls.counted (pages_now store.held.history) c.args.pages.now store.counts ∙ sym (ap length (pages_are g here)))
+    ∙ (length-with_counts store.calls.counted (pages_now store.held.history.value) c.args.pages.now store.counts ∙ sym (ap length (pages_are g here)))
 
 pub invariant_of-self-2-clause-waiting : goal.invariant_of-self-2-clause-waiting
 invariant_of-self-2-clause-waiting g c =
     let here = (goal.at.invariant_of-self-2-clause-waiting g c).After-note in
     let store = c.args.self.now in
-    let pages = pages_now store.held.history in
+    let pages = pages_now store.held.history.value in
     let changed = c.args.pages.now in
     subst (λ (after : List Page). AreWaiting c.note.new.self.waiting after c.note.new.self.counted) (sym (pages_are g here))
     (subst (λ (calls : TableOfCalls). AreWaiting calls.waiting (with_pages pages changed) calls.counted) (sym (calls_are g here))

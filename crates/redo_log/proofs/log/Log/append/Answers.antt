@@ -23,7 +23,7 @@ pub invariant_of-self-clause-named : goal.invariant_of-self-clause-named
 invariant_of-self-clause-named c =
     let s = c.args.self.now in
     let images = c.args.images.now in
-    ap image_blocks c.take.ensures ∙ (blocks_of-with_images s.images.images images ∙ (ap (λ (l : List ℕ). with_blocks l images) s.named ∙ sym c.take_all.ensures.blocks))
+    ap image_blocks c.reckon-self.ensures ∙ (blocks_of-with_images s.images.value images ∙ (ap (λ (l : List ℕ). with_blocks l images) s.named ∙ sym c.take_all.ensures.blocks))
 
 pub invariant_of-self-clause-fits : goal.invariant_of-self-clause-fits
 invariant_of-self-clause-fits c =
@@ -40,7 +40,7 @@ pub returns-clause-keeps : goal.returns-clause-keeps
 returns-clause-keeps c =
     let s = c.args.self.now in
     let images = c.args.images.now in
-    keeps_more s _ images refl refl refl refl refl (λ kept k. kept_more s.format _ _ _ _ images kept c.take_all.ensures.blocks c.take.ensures c.requires.images k)
+    keeps_more s _ images refl refl refl refl refl (λ kept k. kept_more s.format _ _ _ _ images kept c.take_all.ensures.blocks c.reckon-self.ensures c.requires.images k)
 
 pub returns-clause-room : goal.returns-clause-room
 returns-clause-room c = λ n.

@@ -14,8 +14,8 @@ invariant_of-self-clause-laid_out c =
     let s = c.args.self.now in
     let buffer = c.lay_image.new.buffer.items in
     let more : s.laid + 1 ≡ suc s.laid = omega arith in
-    subst (λ (n : ℕ). AreLaid n s.images.images buffer) (sym more)
-    (laid_next s.laid s.buffer.items buffer _ s.images.images c.lay_image.ensures.laid (omega (arith, length-blocks_of s.images.images, ap length s.named)) c.requires.same s.laid_out)
+    subst (λ (n : ℕ). AreLaid n s.images.value buffer) (sym more)
+    (laid_next s.laid s.buffer.items buffer _ s.images.value c.lay_image.ensures.laid (omega (arith, length-blocks_of s.images.value, ap length s.named)) c.requires.same s.laid_out)
 
 pub returns-clause-keeps : goal.returns-clause-keeps
 returns-clause-keeps c = λ m acts forced k.
