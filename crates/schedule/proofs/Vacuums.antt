@@ -1,13 +1,10 @@
 -- Which session runs a bulk delete or a cleanup, after a slot that is set.
 use Rattle.std.proofs.Common.{◌≡◌, ◌≢◌, ℕ, zero, suc, ◌<◌, ◌||◌, ◌&&◌, Bool, true, false, true≢false, Option, Some, None, List, [], ◌∷◌, length, slice_set, refl, sym, ap, subst, arith, inl, inr, ◌∙◌}
+use Rattle.std.proofs.lemmas.Bool.{false_from_ne_true}
 use Rattle.schedule.proofs.Imports.{unwrap_or, list_any, cases_eq, Ask, AskInsert, AskScan, AskBulkDelete, AskCleanup, State, DeadSets, asked_of, op_before, asks_vacuum, asks_bulk_delete}
 use Rattle.schedule.proofs.Imports.{is_vacuum, is_bulk_delete, runs_bulk_delete, cycle_after, asks_cleanup, Op, Insert, Scan, Bulk, Cleanup, Request, ToInsert, ToScan, ToBulk, ToCleanup, slot_of}
 use Rattle.schedule.proofs.Imports.{slot_vacuums, one_vacuums, slot_is_bulk_delete, one_is_bulk_delete, OneVacuums}
 use Rattle.schedule.proofs.Lists.{get_set_same, get_set_other}
-
-not_true : (b : Bool) → (b ≡ true → ⊥) → b ≡ false
-not_true true h = absurd (h refl)
-not_true false h = refl
 
 or_true : (a b : Bool) → b ≡ true → (a || b) ≡ true
 or_true true b h = refl
@@ -78,7 +75,7 @@ module _ (old : State) (slots : List (Option Op)) (session : ℕ) (within : sess
   ]
 
   none_sweeps : one_is_bulk_delete (slice_set slots session None) ≡ false
-  none_sweeps = not_true (one_is_bulk_delete (slice_set slots session None)) (λ one.
+  none_sweeps = false_from_ne_true (one_is_bulk_delete (slice_set slots session None)) (λ one.
       (let some = any_true slot_is_bulk_delete refl (slice_set slots session None) one in
       none_left some.0 (sweep_vacuums (slot_of (slice_set slots session None) some.0) some.1)))
 
@@ -91,7 +88,7 @@ none_runs slots idle session vacuums = true≢false (sym (true_any slot_vacuums 
 
 -- ... so there is no cycle number
 pub none_sweeping : (st : State) (slots : List (Option Op)) → OneVacuums st slots → one_vacuums slots ≡ false → runs_bulk_delete st ≡ false
-none_sweeping st slots h idle = h.cycle ∙ not_true (one_is_bulk_delete slots) (λ one.
+none_sweeping st slots h idle = h.cycle ∙ false_from_ne_true (one_is_bulk_delete slots) (λ one.
     (let some = any_true slot_is_bulk_delete refl slots one in none_runs slots idle some.0 (sweep_vacuums (slot_of slots some.0) some.1)))
 
 -- one begins, if none ran
@@ -119,7 +116,7 @@ module _ (old : State) (slots : List (Option Op)) (session : ℕ) (slot : Option
   pub cleanup_begins : (new : State) → slot_is_bulk_delete slot ≡ false → new.cycle ≡ old.cycle → OneVacuums new (slice_set slots session slot)
   cleanup_begins new calm cycle = record {
     alone = λ a b va vb. only_this a va ∙ sym (only_this b vb);
-    cycle = cycle_same old new cycle ∙ none_sweeping old slots h idle ∙ sym (not_true (one_is_bulk_delete (slice_set slots session slot)) (λ one.
+    cycle = cycle_same old new cycle ∙ none_sweeping old slots h idle ∙ sym (false_from_ne_true (one_is_bulk_delete (slice_set slots session slot)) (λ one.
         (let some = any_true slot_is_bulk_delete refl (slice_set slots session slot) one in none_else calm some.0 some.1)));
   }
 
@@ -211,7 +208,7 @@ vacuums_go old new sets slots session op slot within was cycle asks h = by slot 
     ending (Insert o) is at now = absurd (true≢false (sym is))
     ending (Scan o) is at now = absurd (true≢false (sym is))
     ending (Bulk set o) is at now = ap (λ (n : ℕ). runs_bulk_delete (record old { cycle = n })) now
-    ending (Cleanup o) is at now = cycle_same old new now ∙ h.cycle ∙ not_true (one_is_bulk_delete slots) (λ one. others_calm (any_true slot_is_bulk_delete refl slots one))
+    ending (Cleanup o) is at now = cycle_same old new now ∙ h.cycle ∙ false_from_ne_true (one_is_bulk_delete slots) (λ one. others_calm (any_true slot_is_bulk_delete refl slots one))
       where
         others_calm : ((a : ℕ) × (slot_is_bulk_delete (slot_of slots a) ≡ true)) → ⊥
         others_calm some =

@@ -1,5 +1,6 @@
 -- What a bulk delete is to remove is to come still, over histories.
 use Rattle.std.proofs.Common.{◌≡◌, ◌≢◌, inl, inr, ℕ, ◌+◌, ◌≤◌, ◌==◌, Bool, true, false, Option, Some, None, List, [], ◌∷◌, ◌++◌, length, drop, refl, sym, ap, subst, ◌∙◌, arith}
+use Rattle.std.proofs.lemmas.Bool.{false_from_ne_true}
 use Rattle.session_calls.proofs.Imports.{eqb_tells, drop-append-le, Effect, Add, Remove, Shape, Action, removed_by, IsAddedIn, Row, Entry, same_entry-is, there_before, State, LeafPagesStay}
 use Rattle.session_calls.proofs.Imports.{IsAddedBy, due_undisturbed, BulkDeleteOp, set_at, acts_of, runs_bulk_delete, IsDue, IsBulkDeleteSoFar, DeletionsAreUndisturbed, Insert, Scan, Bulk}
 use Rattle.session_calls.proofs.Imports.{Cleanup}
@@ -50,17 +51,13 @@ others_remove : (number other : ℕ) (effect : Option Effect) → other ≢ numb
 others_remove number other None h = refl
 others_remove number other (Some effect) h = rw (other_number other number h) refl
 
-not_true : (b : Bool) → (b ≡ true → ⊥) → b ≡ false
-not_true true h = absurd (h refl)
-not_true false h = refl
-
 module _ (old new : State) (dead : Row → Bool) (start : Entry → Bool) (history : List Action) (number other began : ℕ) (effect : Option Effect) (op : BulkDeleteOp) (stay : LeafPagesStay effect old new)
     (differ : other ≢ number) (within : began ≤ length history) (h : IsBulkDeleteSoFar old dead start history number began op) where
   sweep_still : IsBulkDeleteSoFar new dead start (history ++ acts_of other effect) number began op
   sweep_still = record {
     runs = ap (λ (c : ℕ). runs_bulk_delete (record old { cycle = c })) stay.cycle ∙ h.runs;
     to_come = λ due are. due_undisturbed due effect old new op.cursor op.backtrack stay
-        (λ e added. not_true (due e) (λ is. due_not_added dead start history other began effect within e (are e is) added))
+        (λ e added. false_from_ne_true (due e) (λ is. due_not_added dead start history other began effect within e (are e is) added))
         (h.to_come due (λ e is. due_before dead start history other began effect within e (are e is)));
     removed = h.removed ∙ (
         let more = ap (removed_by number) (longer_by dead start history other began effect within) in
