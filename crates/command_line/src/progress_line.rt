@@ -1,6 +1,6 @@
 //! A line that tells how far long work is.
 
-use index_model::Progress;
+use index_model::{Noted, Progress, reckon};
 use sessions::{Gate, Told};
 use std::io::{self, Write};
 use std::sync::Mutex;
@@ -87,14 +87,14 @@ pub struct JobGate<'a, P> {
 }
 
 impl<P: Progress> Gate for JobGate<'_, P> {
-    type Hand = Told;
+    type Hand = Noted<Told>;
 
-    fn hand(&self, _worker: u32) -> Told {
-        Told::new()
+    fn hand(&self, _worker: u32) -> Noted<Told> {
+        reckon(&())
     }
 
-    fn taken(&self, hand: &mut Told, _worker: u32, job: u32) {
-        hand.note(u64::from(job));
+    fn taken(&self, hand: &mut Noted<Told>, _worker: u32, job: u32) {
+        *hand = reckon(&(&*hand, job));
         self.progress.done(u64::from(job) + 1, self.all);
     }
 

@@ -1,11 +1,13 @@
 -- Each step of the seats' cell keeps its rule.
-use Rattle.std.proofs.Common.{◌≡◌, ◌≢◌, ◌⊎◌, ◌==◌, ℕ, zero, suc, ◌+◌, List, [], ◌∷◌, ◌++◌, length, set, Option, None, true, false, true≢false, refl, sym, ap, ◌∙◌, subst, inl, inr, ⊎_elim, arith, if◌then◌else◌}
+use Rattle.std.proofs.Common.{◌≡◌, ◌≢◌, ◌⊎◌, ◌==◌, ℕ, zero, suc, ◌+◌, List, [], ◌∷◌, ◌++◌, length, set, Option, None, true, false, refl, sym, ap, ◌∙◌, subst, inl, inr, ⊎_elim, arith, if◌then◌else◌}
+use Rattle.std.proofs.lemmas.Bool.{false≢true}
 use Rattle.std.specs.Prelude.{slice_get, slice_set}
 use Rattle.std.proofs.lemmas.Bool.Decides.{nat_tests}
 use mathlib.Core.Option.{some, some-ne-none, some-injective}
 use lib.ListN.{get_elem?}
 use Rattle.atomic_table.specs.Table.{State, Step, keeps as still, Allows, Splits, Joins, step}
 use Rattle.atomic_table.proofs.Lists.{at_set, at_snoc}
+use Rattle.index_model.specs.Row.{Row}
 use Rattle.session_seats.specs.declared.call.CompletedCall.{CompletedCall}
 use Rattle.session_seats.specs.declared.call.Notice.{Notice}
 use Rattle.session_seats.specs.declared.call.PendingCall.{PendingCall}
@@ -24,9 +26,6 @@ sits_as v w e sits = ap (λ (u : SessionView). u.sits) e ∙ sits
 pub calls_from_snoc : (n w : ℕ) (log : List CompletedCall) (x : CompletedCall) → calls_from n w (log ++ x ∷ []) ≡ calls_from n w log ++ (if x.session == w then (n + length log, x) ∷ [] else [])
 calls_from_snoc n w [] x = grind arith
 calls_from_snoc n w (y ∷ log) x = let h = calls_from_snoc (suc n) w log x in grind (arith, h)
-
-off : false ≡ true → ⊥
-off e = true≢false (sym e)
 
 abbrev AllAgree : ℕ → List CompletedCall → List (Option PendingCall) → List SessionView → Type 0
 AllAgree desk log pending views = (by : ℕ) (v : SessionView) → get_elem? views by ≡ some v → ViewAgrees desk log pending by v
@@ -100,7 +99,7 @@ pub begins : ViewsAgree (keeper_with [] [] ∷ [])
 begins = record { desk = 0; log = []; pending = []; each = one; apart = two }
   where
     one : AllAgree 0 [] [] (keeper_with [] [] ∷ [])
-    one zero v e = subst (ViewAgrees 0 [] [] 0) (some-injective _ _ e) (record { keeper = λ _. record { desk_is = refl; log_is = refl; pending_is = refl }; seat = λ c. absurd (off c) })
+    one zero v e = subst (ViewAgrees 0 [] [] 0) (some-injective _ _ e) (record { keeper = λ _. record { desk_is = refl; log_is = refl; pending_is = refl }; seat = λ c. absurd (false≢true c) })
     one (suc pass) v e = absurd (some-ne-none v (sym e))
 
     two : SitForOne (keeper_with [] [] ∷ [])
@@ -182,9 +181,9 @@ some_same : (a b : Notice) → some a ≡ some b → a ≡ b
 some_same a b e = some-injective _ _ e
 
 module _ (slots pass : ℕ) (v : SessionView) (c : List (ℕ × Notice)) (f : ℕ → ℕ) (i a b : ℕ) (said : Notice) (kept : v.keeps ≡ true) (sits : v.sits ≡ true) where
-  pub begins_allows : Allows CellRule slots pass (v, c) i f (HasBegunCall (step slots i a b (some said)) (v, c))
-  begins_allows s h len at small =
-      (when_begun v said, still, tt, changes s.views h pass v at kept sits _, (λ notice e. ap (λ (n : Notice). (when_begun v n, c)) (some_same said notice e)))
+  pub begins_allows : (rows : List Row) → Allows CellRule slots pass (v, c) i f (HasBegunCall rows (step slots i a b (some said)) (v, c))
+  begins_allows rows s h len at small =
+      (when_begun rows v said, still, tt, changes s.views h pass v at kept sits _, (λ notice e. ap (λ (n : Notice). (when_begun rows v n, c)) (some_same said notice e)))
 
   pub gives_allows : Allows CellRule slots pass (v, c) i f (HasGivenEntry (step slots i a b (some said)) (v, c))
   gives_allows s h len at small =
@@ -219,7 +218,7 @@ checks_allows slots pass v c f i st kept s h len at small =
 
 -- a view that sits for nobody is free
 idle_free : (views : List SessionView) (pass : ℕ) (w : SessionView) → w.sits ≡ false → NoneElse views pass w
-idle_free views pass w idle j u apart e su sw same = off (sym idle ∙ sw)
+idle_free views pass w idle j u apart e su sw same = false≢true (sym idle ∙ sw)
 
 -- the seat leaves the keeper
 pub leaves : (pass : ℕ) (v : SessionView) → v.keeps ≡ true → Splits CellRule pass v (keeper_part v) (seat_part v)
@@ -229,16 +228,16 @@ leaves pass v keeps s h at =
     let f = h.each pass v at in
     let k = f.keeper keeps in
     let rest = refit views h pass v at keeps h.log h.pending a (λ j u apart e su s. s)
-    (record { keeper = λ _. record { desk_is = k.desk_is; log_is = k.log_is; pending_is = k.pending_is }; seat = λ c. absurd (off c) }) in
+    (record { keeper = λ _. record { desk_is = k.desk_is; log_is = k.log_is; pending_is = k.pending_is }; seat = λ c. absurd (false≢true c) }) in
     record {
       desk = h.desk;
       log = h.log;
       pending = h.pending;
       each = each_snoc h.desk h.log h.pending (set views pass a) (seat_part v) rest
-          (λ j. record { keeper = λ c. absurd (off c); seat = λ c. record { call_is = (f.seat c).call_is; calls_are = (f.seat c).calls_are } });
+          (λ j. record { keeper = λ c. absurd (false≢true c); seat = λ c. record { call_is = (f.seat c).call_is; calls_are = (f.seat c).calls_are } });
       apart = apart_snoc (set views pass a) (seat_part v) (apart_set views pass a h.apart (idle_free views pass a refl))
           (λ j u e su sw same. ⊎_elim
-          (λ (x : (j ≡ pass) × (a ≡ u)). off (ap (λ (z : SessionView). z.sits) x.1 ∙ su))
+          (λ (x : (j ≡ pass) × (a ≡ u)). false≢true (ap (λ (z : SessionView). z.sits) x.1 ∙ su))
           (λ (x : (j ≢ pass) × (get_elem? views j ≡ some u)). x.0 (h.apart j pass u v x.1 at su sw same))
           (at_set views pass j a u e));
     }
@@ -252,14 +251,14 @@ widens pass v keeps s h at =
     let pending : List (Option PendingCall) = h.pending ++ None ∷ [] in
     let rest = refit views h pass v at keeps h.log pending a
     (λ j u apart e su s. record { call_is = get_front h.pending (None ∷ []) u.session u.call s.call_is; calls_are = s.calls_are })
-    (record { keeper = λ _. record { desk_is = k.desk_is; log_is = k.log_is; pending_is = ap (λ l. l ++ None ∷ []) k.pending_is }; seat = λ c. absurd (off c) }) in
+    (record { keeper = λ _. record { desk_is = k.desk_is; log_is = k.log_is; pending_is = ap (λ l. l ++ None ∷ []) k.pending_is }; seat = λ c. absurd (false≢true c) }) in
     record {
       desk = h.desk;
       log = h.log;
       pending = pending;
       each = each_snoc h.desk h.log pending (set views pass a) (seat_opening v) rest
           (λ j. record {
-            keeper = λ c. absurd (off c);
+            keeper = λ c. absurd (false≢true c);
             seat = λ _. record {
               call_is = ap (λ (l : List (Option PendingCall)). slice_get pending (length l)) k.pending_is ∙ get_last h.pending None;
               calls_are = ap (λ l. calls_by (length v.pending) l) k.log_is;
@@ -267,7 +266,7 @@ widens pass v keeps s h at =
           });
       apart = apart_snoc (set views pass a) (seat_opening v) (apart_set views pass a h.apart (idle_free views pass a refl))
           (λ j u e su sw same. ⊎_elim
-          (λ (x : (j ≡ pass) × (a ≡ u)). off (ap (λ (z : SessionView). z.sits) x.1 ∙ su))
+          (λ (x : (j ≡ pass) × (a ≡ u)). false≢true (ap (λ (z : SessionView). z.sits) x.1 ∙ su))
           (λ (x : (j ≢ pass) × (get_elem? views j ≡ some u)).
           let inside = get_within h.pending u.session u.call ((h.each j u x.1).seat su).call_is in
           omega (arith, inside, same, ap (λ (l : List (Option PendingCall)). length l) k.pending_is))
@@ -293,7 +292,7 @@ sits_down pass v other u keeps s h at apart there =
             seat =
                 λ c. record { call_is = (g.seat c).call_is; calls_are = (g.seat c).calls_are };
           }) j y e)
-          (record { keeper = λ c. absurd (off c); seat = λ c. absurd (off c) });
+          (record { keeper = λ c. absurd (false≢true c); seat = λ c. absurd (false≢true c) });
       apart = two;
     }
   where
@@ -303,9 +302,9 @@ sits_down pass v other u keeps s h at apart there =
     two : SitForOne (set (set s.views pass (seated v u)) other no_view)
     two i j y z ei ej sy sz same =
         ⊎_elim
-        (λ (p : (i ≡ other) × (no_view ≡ y)). absurd (off (ap (λ (t : SessionView). t.sits) p.1 ∙ sy)))
+        (λ (p : (i ≡ other) × (no_view ≡ y)). absurd (false≢true (ap (λ (t : SessionView). t.sits) p.1 ∙ sy)))
         (λ (p : (i ≢ other) × (get_elem? (set s.views pass (seated v u)) i ≡ some y)). ⊎_elim
-        (λ (q : (j ≡ other) × (no_view ≡ z)). absurd (off (ap (λ (t : SessionView). t.sits) q.1 ∙ sz)))
+        (λ (q : (j ≡ other) × (no_view ≡ z)). absurd (false≢true (ap (λ (t : SessionView). t.sits) q.1 ∙ sz)))
         (λ (q : (j ≢ other) × (get_elem? (set s.views pass (seated v u)) j ≡ some z)). ⊎_elim
         (λ (r : (i ≡ pass) × (seated v u ≡ y)). ⊎_elim
         (λ (s : (j ≡ pass) × (seated v u ≡ z)). r.0 ∙ sym s.0)

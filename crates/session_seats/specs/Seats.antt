@@ -7,6 +7,7 @@ use lib.ListN.{get_elem?}
 use Rattle.atomic_table.specs.Seated.{TableId}
 use Rattle.atomic_table.specs.Table.{Step, Me}
 use Rattle.atomic_table.specs.declared.shared.Seat.{Seat as CellSeat}
+use Rattle.index_model.specs.Row.{Row}
 use Rattle.session_seats.specs.Calls.{begun_by, given_by, completed_by}
 use Rattle.session_seats.specs.declared.call.CompletedCall.{CompletedCall}
 use Rattle.session_seats.specs.declared.call.Notice.{Notice}
@@ -67,9 +68,9 @@ seat_opening v = sitting true (length v.pending) None (calls_by (length v.pendin
 abbrev pub when_changed : SessionView → Option PendingCall → SessionView
 when_changed v call = record v { pending = slice_set v.pending v.session call; call = call }
 
--- ... after it has begun, or given an entry
-abbrev pub when_begun : SessionView → Notice → SessionView
-when_begun v notice = when_changed v (Some (begun_by notice (length v.log)))
+-- ... after it has begun, to remove these rows, or given an entry
+abbrev pub when_begun : List Row → SessionView → Notice → SessionView
+when_begun rows v notice = when_changed v (Some (begun_by rows notice (length v.log)))
 
 abbrev pub when_given : SessionView → Notice → SessionView
 when_given v notice = when_changed v (given_by notice v.call)
@@ -118,9 +119,9 @@ pub record ViewsAgree (views : List SessionView) : Type 0 where
 abbrev pub HasHeard : (SessionView → Notice → SessionView) → Step Notice → Me Notice SessionView → ℕ → Me Notice SessionView → Type 0
 HasHeard after s v found w = (notice : Notice) → s.said ≡ some notice → w ≡ (after v.0 notice, v.1)
 
--- the call begins, gives an entry, ends
-abbrev pub HasBegunCall : Step Notice → Me Notice SessionView → ℕ → Me Notice SessionView → Type 0
-HasBegunCall s v found w = HasHeard when_begun s v found w
+-- the call begins, to remove these rows; it gives an entry; it ends
+abbrev pub HasBegunCall : List Row → Step Notice → Me Notice SessionView → ℕ → Me Notice SessionView → Type 0
+HasBegunCall rows s v found w = HasHeard (when_begun rows) s v found w
 
 abbrev pub HasGivenEntry : Step Notice → Me Notice SessionView → ℕ → Me Notice SessionView → Type 0
 HasGivenEntry s v found w = HasHeard when_given s v found w

@@ -1,7 +1,7 @@
 //! Calls of sessions, as they are known in proofs.
 
 use crate::job::Job;
-use index_model::Entry;
+use index_model::{Entry, RowAddr};
 use session_calls::Answer;
 use std::collections::LinkedList;
 
@@ -17,6 +17,8 @@ pub struct Notice {
 /// A call that runs. No value of it is made.
 pub struct PendingCall {
     pub asked: Job,
+    /// Which rows it is to remove.
+    pub rows: LinkedList<RowAddr>,
     /// What a scan has given, in order.
     pub given: LinkedList<Entry>,
     /// How many actions there were as it began.
@@ -29,6 +31,8 @@ pub struct PendingCall {
 pub struct CompletedCall {
     pub session: u64,
     pub asked: Job,
+    /// Which rows it was to remove.
+    pub rows: LinkedList<RowAddr>,
     /// The answer of its last event; if it was given up for a refused checkpoint, that refusal.
     pub answer: Answer,
     /// What a scan gave, in order.

@@ -19,6 +19,6 @@ pub use group::SessionGroup;
 pub use job::Job;
 pub use seat::{SessionSeat, begin, check, end, gave, open};
 pub use seating::{
-    Begins, Ends, Gives, Looks, Opens, SessionCell, SessionPass, SessionRule, SessionView, Sits,
-    make_cell,
+    AskedRows, Begins, Ends, Gives, Looks, Opens, SessionCell, SessionPass, SessionRule,
+    SessionView, Sits, make_cell,
 };

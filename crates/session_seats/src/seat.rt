@@ -7,7 +7,9 @@ ghost use Rattle.session_seats.specs.Seats.{SeatAgrees, when_begun, when_ended, 
 use crate::call::Notice;
 use crate::desk::SessionDesk;
 use crate::group::SessionGroup;
-use crate::seating::{Begins, Ends, Gives, Looks, Opens, SessionCell, SessionPass, Sits};
+use crate::seating::{
+    AskedRows, Begins, Ends, Gives, Looks, Opens, SessionCell, SessionPass, Sits,
+};
 use std::marker::PhantomData;
 
 /// What a session knows: which call it runs, and which it has had. Whoever has it acts for the session.
@@ -44,18 +46,18 @@ pub fn check<J: SessionGroup>(desk: &mut SessionDesk<J>, seat: SessionSeat<J>) -
     SessionSeat { session, pass, of }
 }
 
-/// The call of the seat's session begins, which is asked what the notice tells.
-pub fn begin<J: SessionGroup>(
+/// The call of the seat's session begins, which is asked what the notice tells, and is to remove these rows.
+pub fn begin<J: SessionGroup, B: AskedRows>(
     desk: &mut SessionDesk<J>,
     seat: SessionSeat<J>,
     notice: &Notice,
 ) -> SessionSeat<J>
     ensures keeper { view_of desk.new.keeper ≡ keeper_with (view_of desk.old.keeper).log
         (slice_set (view_of desk.old.keeper).pending seat.session
-        (Some (begun_by notice.now (length (view_of desk.old.keeper).log)))) }
+        (Some (begun_by B.rows notice.now (length (view_of desk.old.keeper).log)))) }
     ensures session { result.session ≡ seat.session }
     ensures call { (view_of result.pass).call
-        ≡ Some (begun_by notice.now (length (view_of desk.old.keeper).log)) }
+        ≡ Some (begun_by B.rows notice.now (length (view_of desk.old.keeper).log)) }
     ensures calls { (view_of result.pass).calls ≡ (view_of seat.pass).calls }
 {
     let SessionSeat { session, pass, of } = seat;
@@ -65,7 +67,7 @@ pub fn begin<J: SessionGroup>(
         of: _,
     } = desk;
     sit_down(cell, keeper, pass);
-    begin_there(cell, keeper, notice);
+    begin_there::<B>(cell, keeper, notice);
     let pass = leave(cell, keeper);
     SessionSeat { session, pass, of }
 }
@@ -166,16 +168,16 @@ fn look(cell: &SessionCell, keeper: &mut SessionPass)
 }
 
 // Begins the call of the seat that is beside the keeper. The word stays what it is: only the notice counts.
-fn begin_there(cell: &SessionCell, keeper: &mut SessionPass, notice: &Notice)
+fn begin_there<B: AskedRows>(cell: &SessionCell, keeper: &mut SessionPass, notice: &Notice)
     requires word { 0 < cell.now.shared.table_id.words }
     requires of { keeper.old.table_id ≡ cell.now.shared.table_id }
     requires keeps { (view_of keeper.old).keeps ≡ true }
     requires sits { (view_of keeper.old).sits ≡ true }
     ensures of { keeper.new.table_id ≡ keeper.old.table_id }
-    ensures known { view_of keeper.new ≡ when_begun (view_of keeper.old) notice.now }
+    ensures known { view_of keeper.new ≡ when_begun B.rows (view_of keeper.old) notice.now }
 {
     cell.shared
-        .compare_exchange_with::<Begins>(keeper, 0, 0, 0, notice);
+        .compare_exchange_with::<Begins<B>>(keeper, 0, 0, 0, notice);
 }
 
 // Gives an entry of it.

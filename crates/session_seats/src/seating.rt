@@ -7,6 +7,7 @@ use crate::call::{CompletedCall, Notice, PendingCall};
 use atomic_table::{Join, Play, Seat, Split, Table, TableRule};
 use std::alloc::Global;
 use std::collections::LinkedList;
+use std::marker::{Brand, PhantomData};
 
 /// What a pass of the cell knows. A keeper: the log of all calls that are over, and which call each session
 /// runs. A seat: its session, which call that runs, and those of the log that are its own, with their places.
@@ -33,13 +34,30 @@ impl TableRule<Notice, SessionView, ()> for SessionRule {
     ghost first = { λ key. keeper_with [] [] };
 }
 
-/// A call begins: the notice tells what is asked.
-pub struct Begins;
+/// Which rows a call that begins is to remove. Who begins it picks them.
+pub trait AskedRows {
+    ghost use Rattle.std.specs.Prelude.{List};
+    ghost use Rattle.index_model.specs.Row.{Row};
 
-impl Play<Notice, SessionView> for Begins {
+    /// These, in order.
+    ghost rows: { List Row };
+}
+
+impl AskedRows for Brand {
+    ghost use Rattle.std.specs.Prelude.{[]};
+
+    ghost rows = { [] };
+}
+
+/// A call begins: the notice tells what is asked, the type which rows it is to remove.
+pub struct Begins<B> {
+    marker: PhantomData<B>,
+}
+
+impl<B: AskedRows> Play<Notice, SessionView> for Begins<B> {
     ghost use Rattle.session_seats.specs.Seats.{HasBegunCall};
 
-    ghost then = { HasBegunCall };
+    ghost then = { HasBegunCall B.rows };
 }
 
 /// A call gives the entry of the notice's answer.

@@ -14,10 +14,10 @@ same_there : {A : Type 0} (o : Option A) (x y : A) → o ≡ Some x → o ≡ So
 same_there o x y e f = cc
 
 -- what is kept, if less was kept then
-keeps_as : {S : Type 0} (g : Ghosts S) (contents : Entry → Bool) (old : List Action) (calls : List Call) (A B : Type 0)
+keeps_as : {S : Type 0} (g : Ghosts S) (handed : Handed) (contents : Entry → Bool) (old : List Action) (calls : List Call) (A B : Type 0)
     (now : StoreAndSlots S) (start : ℕ) (pending : List (Option PendingCall)) (records : List CompletedCall)
-    → (A → B) → KeepsFitting g contents old calls B now start pending records → KeepsFitting g contents old calls A now start pending records
-keeps_as g contents old calls A B now start pending records f k = record {
+    → (A → B) → KeepsFitting g handed contents old calls B now start pending records → KeepsFitting g handed contents old calls A now start pending records
+keeps_as g handed contents old calls A B now start pending records f k = record {
   history = k.history;
   calls = k.calls;
   at = k.at;
@@ -51,7 +51,7 @@ module _ {S T : Type 0} (g : Ghosts S) (rows : SetGhosts T) (stood kept_then : (
 
 module _ {S T : Type 0} (g : Ghosts S) (rows : SetGhosts T) (stood kept_then : (Entry → Bool) → List Action → List Call → Type 0) (followed : S → Type 0) (jobs : List Job)
     (workers : ℕ) (world : World S T) (done : Finished S T)
-    (h : HasRun g rows stood kept_then followed (handed_of g rows world) jobs workers done.world done.start done.history.items)
+    (h : HasRun g rows stood kept_then followed (handed_of g rows None world) jobs workers done.world done.start done.history.items)
     (fits : (contents : Entry → Bool) (history : List Action) (calls : List Call) → WorldFits g rows world contents history calls → stood contents history calls)
     (keeps : (contents : Entry → Bool) (history : List Action) (calls : List Call) → WorldKeeps g rows world contents history calls → kept_then contents history calls)
     (followed_then : (first : S) → g.follows first world.store → followed first)
@@ -80,7 +80,7 @@ module _ {S T : Type 0} (g : Ghosts S) (rows : SetGhosts T) (stood kept_then : (
   pub finished : IsFinished g rows jobs workers world done
   finished = record {
     kept = ∥∥₁_map h.kept
-        (λ all honest contents history calls fit. keeps_as g contents history calls (WorldKeeps g rows world contents history calls) (kept_then contents history calls) _ done.start [] (completed_calls records)
+        (λ all honest contents history calls fit. keeps_as g (handed_of g rows None world) contents history calls (WorldKeeps g rows world contents history calls) (kept_then contents history calls) _ done.start [] (completed_calls (handed_of g rows None world).sets records)
         (keeps contents history calls) (all honest contents history calls (fits contents history calls fit)));
     acted = h.acted;
     booked = h.booked;

@@ -1,5 +1,5 @@
 -- What a run may be asked for, and what it answers.
-use Rattle.std.specs.Prelude.{◌≡◌, ◌==◌, ℕ, ◌<◌, ◌≤◌, true, Option, Some, List, [], length, slice_get, IfSome}
+use Rattle.std.specs.Prelude.{◌≡◌, ◌==◌, ℕ, ◌<◌, ◌≤◌, true, Option, None, Some, List, [], length, slice_get, IfSome}
 use Rattle.std.specs.List.{sum, sum_by, count_by, filter}
 use Rattle.index_model.specs.declared.dead_rows.DeadRows.{Ghosts as SetGhosts}
 use Rattle.index_model.specs.declared.fault.Fault.{Fault}
@@ -62,10 +62,10 @@ pub record IsReceiptFor (records : List Record) (job : ℕ) (receipt : Receipt) 
 
 -- ... and each has its receipt
 pub record IsFinished {S T : Type 0} (g : Ghosts S) (rows : SetGhosts T) (jobs : List Job) (workers : ℕ) (world : World S T) (done : Finished S T) : Type 0 where
-  pub kept : ∥ KeepsAll g (WorldFits g rows world) (WorldKeeps g rows world) (inside rows done.world) done.start [] (completed_calls done.history.items) ∥₁
-  pub acted : ∥ HasActed g (handed_of g rows world) (inside rows done.world) [] (completed_calls done.history.items) ∥₁
+  pub kept : ∥ KeepsAll g (handed_of g rows None world) (WorldFits g rows world) (WorldKeeps g rows world) (inside rows done.world) done.start [] (completed_calls (inside rows world).sets done.history.items) ∥₁
+  pub acted : ∥ HasActed g (handed_of g rows None world) (inside rows done.world) [] (completed_calls (inside rows world).sets done.history.items) ∥₁
   pub booked : AreBooked jobs [] done.history.items
-  pub comes : ∥ ComesOf g (handed_of g rows world) done.start (inside rows done.world) ∥₁
+  pub comes : ∥ ComesOf g (handed_of g rows None world) done.start (inside rows done.world) ∥₁
   pub steps : ∥ Continues g.follows world.store done.world.store ∥₁
   pub idle : AreIdle done.world.calls.slots.items
   pub all : length done.history.items ≡ length jobs

@@ -1,12 +1,13 @@
 //! Who is told of each job.
 
+use index_model::{Noted, reckon};
 use worker_seats::{Telling, Told};
 
 /// Is told of each job that a worker takes, before it begins.
 pub trait Gate {
     ghost use Rattle.std.specs.Prelude.{◌≡◌, ◌++◌, ◌∷◌, []};
 
-    /// With what a worker tells it. It notes which jobs it was told of; `Told` notes them for clauses alone.
+    /// With what a worker tells it. It notes the jobs that it was told of, `Noted<Told>` for clauses alone.
     type Hand: Telling + Send + Drop;
 
     /// A worker's hand, which has told of no job.
@@ -28,14 +29,14 @@ pub trait Gate {
 pub struct NoGate;
 
 impl Gate for NoGate {
-    type Hand = Told;
+    type Hand = Noted<Told>;
 
-    fn hand(&self, _worker: u32) -> Told {
-        Told::new()
+    fn hand(&self, _worker: u32) -> Noted<Told> {
+        reckon(&())
     }
 
-    fn taken(&self, hand: &mut Told, _worker: u32, job: u32) {
-        hand.note(u64::from(job));
+    fn taken(&self, hand: &mut Noted<Told>, _worker: u32, job: u32) {
+        *hand = reckon(&(&*hand, job));
     }
 
     fn may_wait(&self) -> bool {

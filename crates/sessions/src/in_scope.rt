@@ -1,6 +1,6 @@
 //! A run in a scope of its own.
 
-ghost use Rattle.std.specs.Prelude.{◌≡◌, ◌≤◌, ◌<◌, ◌+◌, [], IfOk, IfErr, length, vec_capacity};
+ghost use Rattle.std.specs.Prelude.{◌≡◌, ◌≤◌, ◌<◌, ◌+◌, [], None, IfOk, IfErr, length, vec_capacity};
 ghost use Rattle.world.specs.Worlds.{inside};
 ghost use Rattle.shared_world.specs.Ended.{HasRun};
 ghost use Rattle.shared_world.specs.Handed.{IsAsHanded};
@@ -52,6 +52,7 @@ pub fn run_all<
     requires sessions { J.workers ≤ length world.calls.slots.items }
     requires stood { Stands S.PageStore J.stood J.kept_then J.followed (inside T.DeadRows world) }
     requires handed { IsAsHanded S.PageStore J.handed (inside T.DeadRows world) }
+    requires stays { J.handed.spare ≡ None }
     requires rests { AreIdle world.calls.slots.items }
     ensures err { IfErr result (λ w. w ≡ world) }
     ensures done { IfOk result (λ r. HasRun S.PageStore T.DeadRows J.stood J.kept_then J.followed J.handed
@@ -73,6 +74,7 @@ pub fn run_all<
             requires sessions { J.workers ≤ length world.calls.slots.items }
             requires stood { Stands S.PageStore J.stood J.kept_then J.followed (inside T.DeadRows world) }
             requires handed { IsAsHanded S.PageStore J.handed (inside T.DeadRows world) }
+            requires stays { J.handed.spare ≡ None }
             requires rests { AreIdle world.calls.slots.items }
             ensures err { IfErr result (λ w. w ≡ world) }
             ensures done { IfOk result (λ r. HasRun S.PageStore T.DeadRows J.stood J.kept_then

@@ -1,6 +1,6 @@
 //! A run of jobs.
 
-ghost use Rattle.std.specs.Prelude.{◌≡◌, ◌<◌, ◌^◌, ◌↔◌, ℕ, Bool, List, [], Some, IfOk, IfErr, IfSome, OnOk, length, map, replicate, slice_get, vec_len};
+ghost use Rattle.std.specs.Prelude.{◌≡◌, ◌<◌, ◌^◌, ◌↔◌, ℕ, Bool, List, [], None, Some, IfOk, IfErr, IfSome, OnOk, length, map, replicate, slice_get, vec_len};
 ghost use Rattle.std.specs.List.{sum};
 ghost use Rattle.crossbeam_queue.specs.Passes.{view, IsPassOf};
 ghost use Rattle.index_model.specs.Actions.{Action};
@@ -136,7 +136,7 @@ fn run_named<
     requires jobs { J.jobs ≡ jobs.now }
     requires list { K.list ≡ jobs.now }
     requires workers { J.workers ≡ workers }
-    requires handed { J.handed ≡ handed_of S.PageStore T.DeadRows world }
+    requires handed { J.handed ≡ handed_of S.PageStore T.DeadRows None world }
     requires stood { (contents : OneEntry → Bool) (history : List Action) (calls : List Call)
         → J.stood contents history calls
         ↔ WorldFits S.PageStore T.DeadRows world contents history calls }
@@ -305,12 +305,14 @@ pub fn run_jobs<
         (IsWithinLimits (length world.calls.slots.items) jobs.now workers) }
     ensures free { OnOk result (AreIdle world.calls.slots.items) }
     ensures kept { IfOk result (λ done. ∥ KeepsAll S.PageStore
+        (handed_of S.PageStore T.DeadRows None world)
         (WorldFits S.PageStore T.DeadRows world) (WorldKeeps S.PageStore T.DeadRows world)
-        (inside T.DeadRows done.world) done.start [] (completed_calls done.history.items) ∥₁) }
+        (inside T.DeadRows done.world) done.start []
+        (completed_calls (inside T.DeadRows world).sets done.history.items) ∥₁) }
     // What was done for each record, whatever the pages are.
     ensures acted { IfOk result (λ done. ∥ HasActed S.PageStore
-        (handed_of S.PageStore T.DeadRows world) (inside T.DeadRows done.world) []
-        (completed_calls done.history.items) ∥₁) }
+        (handed_of S.PageStore T.DeadRows None world) (inside T.DeadRows done.world) []
+        (completed_calls (inside T.DeadRows world).sets done.history.items) ∥₁) }
     // Each record asks what the job of its number does. A scan was cut only if its room was full.
     ensures booked { IfOk result (λ done. AreBooked jobs.now [] done.history.items) }
     // What its store followed it follows still, so that the law of crashes holds over the run.

@@ -218,6 +218,7 @@ pub fn run_threads<
     requires sessions { J.workers ≤ length world.calls.slots.items }
     requires stood { Stands S.PageStore J.stood J.kept_then J.followed (inside T.DeadRows world) }
     requires handed { IsAsHanded S.PageStore J.handed (inside T.DeadRows world) }
+    requires stays { J.handed.spare ≡ None }
     requires rests { AreIdle world.calls.slots.items }
     ensures err { IfErr result (λ w. w ≡ world) }
     ensures done { IfOk result (λ r. HasRun S.PageStore T.DeadRows J.stood J.kept_then J.followed J.handed

@@ -31,10 +31,10 @@ none_runs : (slots : List (Option Op)) (pending : List (Option PendingCall)) →
 none_runs slots pending matches idle s p e = let yes = runs_there slots pending s p matches e in let no = idle s in absurd (cc)
 
 -- what is kept if none runs
-keeps_none : {S : Type 0} (g : Ghosts S) (contents : Entry → Bool) (old : List Action) (calls : List Call) (Kept : Type 0) (now : StoreAndSlots S) (start : ℕ)
+keeps_none : {S : Type 0} (g : Ghosts S) (handed : Handed) (contents : Entry → Bool) (old : List Action) (calls : List Call) (Kept : Type 0) (now : StoreAndSlots S) (start : ℕ)
     (pending : List (Option PendingCall)) (log : List CompletedCall) → NoneIsPending pending
-    → KeepsFitting g contents old calls Kept now start pending log → KeepsFitting g contents old calls Kept now start [] log
-keeps_none g contents old calls Kept now start pending log none k = record {
+    → KeepsFitting g handed contents old calls Kept now start pending log → KeepsFitting g handed contents old calls Kept now start [] log
+keeps_none g handed contents old calls Kept now start pending log none k = record {
   history = k.history;
   calls = k.calls;
   at = k.at;
@@ -77,7 +77,7 @@ acts_none g handed now pending log none a = record {
 
 module _ {S T : Type 0} (g : Ghosts S) (rows : SetGhosts T) (stood kept_then : (Entry → Bool) → List Action → List Call → Type 0) (followed : S → Type 0) (handed : Handed)
     (world : World S T) (start : ℕ) (pending : List (Option PendingCall)) (log : List CompletedCall)
-    (kept : ∥ KeepsAll g stood kept_then (inside rows world) start pending log ∥₁) (acted : ∥ HasActed g handed (inside rows world) pending log ∥₁)
+    (kept : ∥ KeepsAll g handed stood kept_then (inside rows world) start pending log ∥₁) (acted : ∥ HasActed g handed (inside rows world) pending log ∥₁)
     (matches : ∥ MatchesPending world.calls.slots.items pending ∥₁)
     (comes : ∥ ComesOf g handed start (inside rows world) ∥₁) (steps : ∥ StillFollows g followed world.store ∥₁)
     (told : List (ℕ × List (ℕ × CompletedCall))) (own : AreOfLog log told) where
@@ -88,7 +88,7 @@ module _ {S T : Type 0} (g : Ghosts S) (rows : SetGhosts T) (stood kept_then : (
     pending = [];
     told = told;
     kept = ∥∥₁_map kept (λ all honest contents history calls stands.
-        keeps_none g contents history calls (kept_then contents history calls) (inside rows world) start pending log (none_runs world.calls.slots.items pending matches (free refl)) (all honest contents history calls stands));
+        keeps_none g handed contents history calls (kept_then contents history calls) (inside rows world) start pending log (none_runs world.calls.slots.items pending matches (free refl)) (all honest contents history calls stands));
     acted = ∥∥₁_map acted (acts_none g handed (inside rows world) pending log (none_runs world.calls.slots.items pending matches (free refl)));
     comes = comes;
     steps = steps;
@@ -112,9 +112,9 @@ module _ {S T : Type 0} (g : Ghosts S) (rows : SetGhosts T) (stood kept_then : (
   }
 
 -- what is kept, if more stood and less was kept then
-keeps_as : {S : Type 0} (g : Ghosts S) (contents : Entry → Bool) (old : List Action) (calls : List Call) (A B : Type 0) (now : StoreAndSlots S) (start : ℕ)
-    (pending : List (Option PendingCall)) (log : List CompletedCall) → (A → B) → KeepsFitting g contents old calls B now start pending log → KeepsFitting g contents old calls A now start pending log
-keeps_as g contents old calls A B now start pending log f k = record {
+keeps_as : {S : Type 0} (g : Ghosts S) (handed : Handed) (contents : Entry → Bool) (old : List Action) (calls : List Call) (A B : Type 0) (now : StoreAndSlots S) (start : ℕ)
+    (pending : List (Option PendingCall)) (log : List CompletedCall) → (A → B) → KeepsFitting g handed contents old calls B now start pending log → KeepsFitting g handed contents old calls A now start pending log
+keeps_as g handed contents old calls A B now start pending log f k = record {
   history = k.history;
   calls = k.calls;
   at = k.at;
@@ -146,8 +146,8 @@ module _ {S T : Type 0} (g : Ghosts S) (rows : SetGhosts T) (stood kept_then sta
     log = s.log;
     pending = s.pending;
     told = s.told;
-    kept = ∥∥₁_map s.kept (λ all honest contents history calls stand.
-        keeps_as g contents history calls (keeps contents history calls) (kept_then contents history calls) (inside rows world) start s.pending s.log (safe contents history calls)
+    kept = ∥∥₁_map (subst (λ (h : Handed). ∥ KeepsAll g h stood kept_then (inside rows world) start s.pending s.log ∥₁) same s.kept) (λ all honest contents history calls stand.
+        keeps_as g known contents history calls (keeps contents history calls) (kept_then contents history calls) (inside rows world) start s.pending s.log (safe contents history calls)
         (all honest contents history calls (fits contents history calls stand)));
     acted = subst (λ (h : Handed). ∥ HasActed g h (inside rows world) s.pending s.log ∥₁) same s.acted;
     comes = subst (λ (h : Handed). ∥ ComesOf g h start (inside rows world) ∥₁) same s.comes;

@@ -39,7 +39,7 @@ pub record IsServedWorld {S T : Type 0} (g : Ghosts S) (rows : SetGhosts T) (sto
   pub log : List CompletedCall
   pub pending : List (Option PendingCall)
   pub told : List (ℕ × List (ℕ × CompletedCall))
-  pub kept : ∥ KeepsAll g stood kept_then (inside rows world) start pending log ∥₁
+  pub kept : ∥ KeepsAll g handed stood kept_then (inside rows world) start pending log ∥₁
   pub acted : ∥ HasActed g handed (inside rows world) pending log ∥₁
   pub comes : ∥ ComesOf g handed start (inside rows world) ∥₁
   pub steps : ∥ StillFollows g followed world.store ∥₁

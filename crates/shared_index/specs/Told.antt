@@ -1,6 +1,6 @@
 -- What sessions know of their calls, side by side with the one log.
 use Rattle.std.specs.Prelude.{◌≡◌, ◌+◌, ℕ, Option, None, List, [], map, length, slice_get, IfSome}
-use Rattle.session_seats.specs.Seats.{calls_by}
+use Rattle.session_seats.specs.Seats.{calls_from}
 use Rattle.session_seats.specs.declared.call.CompletedCall.{CompletedCall}
 use Rattle.session_seats.specs.declared.call.PendingCall.{PendingCall}
 use Rattle.session_seats.specs.declared.group.SessionGroup.{Ghosts}
@@ -25,7 +25,7 @@ AreFresh first sessions = (k : ℕ) → IfSome (slice_get sessions k) (λ s. sta
 
 -- each of them has had just the calls that the log has of it
 abbrev pub AreOfLog : List CompletedCall → List (ℕ × List (ℕ × CompletedCall)) → Type 0
-AreOfLog log told = (k : ℕ) → IfSome (slice_get told k) (λ t. t.1 ≡ calls_by t.0 log)
+AreOfLog log told = (k : ℕ) → IfSome (slice_get told k) (λ t. t.1 ≡ calls_from 0 t.0 log)
 
 -- They are the sessions from 0 on, with an answer of each, and each answer tells this of its session's calls.
 pub record HaveLearnt {O : Type 0} (learnt : O → List (ℕ × CompletedCall) → Type 0) (outs : List O) (told : List (ℕ × List (ℕ × CompletedCall))) : Type 0 where

@@ -1,6 +1,6 @@
 //! The threads of an index, in a scope of their own.
 
-ghost use Rattle.std.specs.Prelude.{◌≡◌, ◌≤◌, ◌<◌, [], suc, None, length, vec_len, vec_capacity};
+ghost use Rattle.std.specs.Prelude.{◌≡◌, ◌≤◌, ◌<◌, [], suc, None, Some, length, vec_len, vec_capacity};
 ghost use Rattle.shared_index.specs.Told.{AreFresh, HaveLearnt, all_told, standing_of};
 
 use crate::client::{Client, Worked};
@@ -32,6 +32,7 @@ pub fn run_all<
     sessions: Vec<SharedSession<J>>,
     outs: Vec<C::Out>,
 ) -> (Live<S, T, J>, Vec<SharedSession<J>>, Vec<C::Out>)
+    requires spare { J.handed.spare ≡ Some 0 }
     requires first { standing_of first ≡ ((0, []), None) }
     requires fresh { AreFresh 1 rest.items }
     requires handles { (handles.items ≡ []) × (vec_len rest ≤ vec_capacity handles) }

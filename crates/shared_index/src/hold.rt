@@ -2,8 +2,10 @@
 
 ghost use Rattle.std.specs.Prelude.{◌≡◌, None, Some};
 ghost use Rattle.session_seats.specs.Seats.{view_of};
+ghost use Rattle.world.specs.Worlds.{inside};
 ghost use Rattle.shared_world.specs.Leaving.{RunsItsCall, call_in};
-ghost use Rattle.shared_index.specs.Sessions.{HoldLeaves, IsNoScan};
+ghost use Rattle.shared_world.specs.Rows.{rows_in, set_asked};
+ghost use Rattle.shared_index.specs.Sessions.{HoldBegins, HoldLeaves, IsNoScan};
 
 use index_model::{DeadRows, Fault};
 use page_action::PageStore;
@@ -76,7 +78,7 @@ fn stopped<S: PageStore, T: DeadRows + Drop, J: OriginOn<S>>(
     requires runs { RunsItsCall (view_of seat.pass) }
     requires writes { IsNoScan (call_in (view_of seat.pass)).asked }
     ensures session { result.seat.session ≡ seat.session }
-    ensures told { HoldLeaves (call_in (view_of seat.pass)).asked result.answer
+    ensures told { HoldLeaves (call_in (view_of seat.pass)) result.answer
         (view_of seat.pass) (view_of result.seat.pass) }
 {
     let is_bound = live.world.added(seat.session).is_some();
@@ -110,7 +112,7 @@ pub fn go_on<S: PageStore, T: DeadRows + Drop, J: OriginOn<S>>(
     requires runs { RunsItsCall (view_of seat.pass) }
     requires writes { IsNoScan (call_in (view_of seat.pass)).asked }
     ensures session { result.seat.session ≡ seat.session }
-    ensures told { HoldLeaves (call_in (view_of seat.pass)).asked result.answer
+    ensures told { HoldLeaves (call_in (view_of seat.pass)) result.answer
         (view_of seat.pass) (view_of result.seat.pass) }
 {
     let mut mine = seat;
@@ -140,7 +142,8 @@ pub fn begin_and_go_on<S: PageStore, T: DeadRows + Drop, J: OriginOn<S>>(
     requires idle { (view_of seat.pass).call ≡ None }
     requires writes { IsNoScan asked }
     ensures session { result.seat.session ≡ seat.session }
-    ensures told { HoldLeaves asked result.answer (view_of seat.pass) (view_of result.seat.pass) }
+    ensures told { HoldBegins asked (rows_in (set_asked (inside T.DeadRows live.old.world).sets asked))
+        result.answer (view_of seat.pass) (view_of result.seat.pass) }
 {
     let SessionTurn {
         seat,

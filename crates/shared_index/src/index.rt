@@ -1,11 +1,15 @@
 //! The handle that threads share.
 
-ghost use Rattle.std.specs.Prelude.{◌≡◌, ◌≤◌, [], true, false, None, Some, vec_len, vec_capacity};
+ghost use Rattle.std.specs.Prelude.{◌≡◌, ◌≤◌, [], true, false, None, Some, IfOk, IfErr, vec_len, vec_capacity};
 ghost use Rattle.session_seats.specs.Seats.{view_of};
 ghost use Rattle.session_seats.specs.declared.job.Job.{Job as Asked};
 ghost use Rattle.shared_world.specs.Leaving.{RunsItsCall, call_in};
+ghost use Rattle.session_seats.specs.declared.call.PendingCall.{PendingCall as RunningCall};
+ghost use Rattle.session_seats.specs.declared.seating.SessionView.{SessionView};
+ghost use Rattle.shared_world.specs.Rows.{rows_in};
+ghost use Rattle.shared_index.specs.Results.{told_of_vacuum};
 ghost use Rattle.shared_index.specs.Scanning.{HasBegunScan, HasTakenMore, RunsScan, ScanIsOver, scan_room};
-ghost use Rattle.shared_index.specs.Sessions.{HasHadCall, HoldLeaves, IsNoScan};
+ghost use Rattle.shared_index.specs.Sessions.{HasDeletedRows, HasHadCall, HoldLeaves, HoldMayGoOn, IsNoScan, IsNotPut};
 
 use crate::hold::HoldEnd;
 use crate::locked::{LockedIndex, is_vacuum};
@@ -19,6 +23,7 @@ use session_seats::{SessionGroup, SessionSeat};
 use shared_world::{Job, Live, OriginOn, SessionTurn};
 use std::sync::{Condvar, CondvarTimeouts, Mutex, MutexGuard, Wait};
 use std::time::{Clock, Duration};
+use world::NotPut;
 
 /// An index that many threads use at once, each with a session of its own.
 pub struct SharedIndex<S: PageStore, T: DeadRows + Drop, J: OriginOn<S>> {
@@ -38,8 +43,10 @@ pub struct CallEnd<J: SessionGroup> {
 }
 
 impl<S: PageStore, T: DeadRows + Drop, J: OriginOn<S>> SharedIndex<S, T, J> {
-    /// What threads share, with this under its lock.
-    pub fn new(live: Live<S, T, J>) -> SharedIndex<S, T, J> {
+    /// What threads share, with this under its lock, whose first set is a spare one.
+    pub(crate) fn new(live: Live<S, T, J>) -> SharedIndex<S, T, J>
+        requires spare { J.handed.spare ≡ Some 0 }
+    {
         SharedIndex {
             slot: Mutex::new(LockedIndex {
                 live,
@@ -136,6 +143,74 @@ impl<S: PageStore, T: DeadRows + Drop, J: OriginOn<S>> SharedIndex<S, T, J> {
         self.wait(rt, guard, end.moved, left)
     }
 
+    // Goes on with a call that has begun, by holds, until it is over.
+    fn finish<R: Wait + Clock>(
+        &self,
+        rt: &R,
+        begun: HoldEnd<J>,
+        is_late: bool,
+        mut patience: Patience,
+    ) -> CallEnd<J>
+        requires runs { HoldMayGoOn begun.answer (view_of begun.seat.pass) }
+        ensures session { result.seat.session ≡ begun.seat.session }
+        ensures told { (p : RunningCall) (old : SessionView)
+            → HoldLeaves p begun.answer old (view_of begun.seat.pass)
+            → HoldLeaves p (Some result.answer) old (view_of result.seat.pass) }
+    {
+        let mut end = begun;
+        let mut gives_up = is_late;
+        for _ in rt.forever() {
+            let HoldEnd {
+                seat,
+                answer,
+                moved: _,
+                blocked,
+                is_bound: _,
+            } = end;
+            if let Some(answer) = answer {
+                let page = blocked.unwrap_or(0);
+                return CallEnd { seat, answer, page };
+            }
+            let mut guard = self.slot.lock(rt);
+            end = guard.go_on(seat, gives_up);
+            gives_up = self.after(rt, guard, &end, &mut patience);
+        }
+        unreachable!()
+    }
+
+    /// A bulk delete of the rows of this set, as `call` makes it: when no other bulk delete or cleanup runs,
+    /// or at the end of the patience, the set is put at the spare place. The call begins in the same hold.
+    /// Hands out the set that was there. If it can't be put, there is no call, and it is given back with the
+    /// seat.
+    pub(crate) fn delete_rows<R: Wait + Clock>(
+        &self,
+        rt: &R,
+        seat: SessionSeat<J>,
+        set: T,
+        patience: Option<Duration>,
+    ) -> Result<(CallEnd<J>, T), (SessionSeat<J>, NotPut<T>)>
+        requires idle { (view_of seat.pass).call ≡ None }
+        ensures session { IfOk result (λ done. done.0.seat.session ≡ seat.session) }
+        ensures idle { IfOk result (λ done. (view_of done.0.seat.pass).call ≡ None) }
+        ensures told { IfOk result (λ done. HasDeletedRows (rows_in (T.is_in set))
+            (told_of_vacuum done.0.page done.0.answer)
+            (view_of seat.pass).calls (view_of done.0.seat.pass).calls) }
+        ensures seat { IfErr result (λ refused. refused.0 ≡ seat) }
+        ensures given_back { IfErr result (λ refused. refused.1.set ≡ set) }
+        ensures cause { IfErr result (λ refused. IsNotPut J.handed refused.1.fault) }
+    {
+        let mut patience = Patience::new(patience);
+        let guard = self.slot.lock(rt);
+        let mut guard = self.wait_for_vacuum(rt, guard, &mut patience);
+        match guard.put_and_begin(seat, set) {
+            Ok((begun, was)) => {
+                let is_late = self.after(rt, guard, &begun, &mut patience);
+                Ok((self.finish(rt, begun, is_late, patience), was))
+            }
+            Err(refused) => Err(refused),
+        }
+    }
+
     /// A whole call of the session, by holds of at most 1,024 steps, with the lock let go between them. If
     /// it is blocked for as long as this patience, it is given up, unless its entry is added. A bulk delete
     /// or a cleanup begins when no other runs, or at the end of the patience.
@@ -158,25 +233,9 @@ impl<S: PageStore, T: DeadRows + Drop, J: OriginOn<S>> SharedIndex<S, T, J> {
         if is_vacuum(&asked) {
             guard = self.wait_for_vacuum(rt, guard, &mut patience);
         }
-        let mut end = guard.begin(seat, asked);
-        let mut gives_up = self.after(rt, guard, &end, &mut patience);
-        for _ in rt.forever() {
-            let HoldEnd {
-                seat,
-                answer,
-                moved: _,
-                blocked,
-                is_bound: _,
-            } = end;
-            if let Some(answer) = answer {
-                let page = blocked.unwrap_or(0);
-                return CallEnd { seat, answer, page };
-            }
-            let mut guard = self.slot.lock(rt);
-            end = guard.go_on(seat, gives_up);
-            gives_up = self.after(rt, guard, &end, &mut patience);
-        }
-        unreachable!()
+        let begun = guard.begin(seat, asked);
+        let is_late = self.after(rt, guard, &begun, &mut patience);
+        self.finish(rt, begun, is_late, patience)
     }
 
     /// Begins a scan of the session. If that is refused, it is over.

@@ -22,4 +22,5 @@ pub use close::ServedIndex;
 pub use index::SharedIndex;
 pub use rounds::CommitRounds;
 pub use serving::{NotServed, serve};
-pub use session::SharedSession;
+pub use session::{RowsDeleted, SharedSession};
+pub use world::NotPut;

@@ -129,7 +129,8 @@ pub fn take<S: PageStore, T: DeadRows + Drop, J: OriginOn<S>>(
             return ScanHold {
                 turn,
                 goes_on,
-                moved,
+                // A scan that is over has let its page go, for which others may wait.
+                moved: moved || !goes_on,
             };
         }
         let ScanTurn { seat, count, .. } = turn;

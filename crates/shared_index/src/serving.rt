@@ -62,7 +62,7 @@ fn serve_named<
     requires cell { IsSessionCell J.sessions cell.shared.table_id }
     requires keeper { keeper.table_id ≡ cell.shared.table_id }
     requires knows { view_of keeper ≡ keeper_with [] [] }
-    requires handed { J.handed ≡ handed_of S.PageStore T.DeadRows world }
+    requires handed { J.handed ≡ handed_of S.PageStore T.DeadRows (Some 0) world }
     requires stood { (contents : OneEntry → Bool) (history : List Action) (calls : List Call)
         → J.stood contents history calls
         ↔ WorldFits S.PageStore T.DeadRows world contents history calls }
@@ -76,7 +76,7 @@ fn serve_named<
     ensures memory { IfErr result (λ not_served. not_served.fault ≡ Fault.NoMemory) }
     ensures served { IfOk result (λ r. IsServedWorld S.PageStore T.DeadRows
         (WorldFits S.PageStore T.DeadRows world) (WorldKeeps S.PageStore T.DeadRows world)
-        (λ first. S.follows first world.store) (handed_of S.PageStore T.DeadRows world)
+        (λ first. S.follows first world.store) (handed_of S.PageStore T.DeadRows (Some 0) world)
         (HaveLearnt C.learnt r.outs.items) r.world r.start r.idle) }
     ensures answers { IfOk result
         (λ r. (0 < length r.outs.items) × (length r.outs.items ≤ sessions)) }
@@ -154,7 +154,7 @@ pub fn serve<
     ensures free { OnOk result (AreIdle world.calls.slots.items) }
     ensures served { IfOk result (λ r. IsServedWorld S.PageStore T.DeadRows
         (WorldFits S.PageStore T.DeadRows world) (WorldKeeps S.PageStore T.DeadRows world)
-        (λ first. S.follows first world.store) (handed_of S.PageStore T.DeadRows world)
+        (λ first. S.follows first world.store) (handed_of S.PageStore T.DeadRows (Some 0) world)
         (HaveLearnt C.learnt r.outs.items) r.world r.start r.idle) }
     ensures answers { IfOk result
         (λ r. (0 < length r.outs.items) × (length r.outs.items ≤ sessions)) }

@@ -4,8 +4,8 @@ ghost use Rattle.std.specs.Prelude.{◌≡◌};
 ghost use Rattle.shared_index.specs.Sessions.{number_of_seat};
 
 use crate::requests::{Pause, Requests};
-use index_model::{DeadRows, Entry, Fault, Range, VacuumStats};
-use ledger_lines::{LedgerLine, Reply, parse, put_entry, put_reply};
+use index_model::{Entry, Fault, Range, VacuumStats};
+use ledger_lines::{Dead, LedgerLine, Reply, listed, parse, put_entry, put_reply};
 use page_action::PageStore;
 use shared_index::{Client, SharedIndex, SharedSession};
 use shared_world::OriginOn;
@@ -13,7 +13,7 @@ use std::alloc::Global;
 use std::io::{self, BufRead, Write};
 use std::sync::{Mutex, Wait};
 use std::time::Clock;
-use text_forms::first_line;
+use text_forms::{Rows, first_line};
 use whole_calls::Inserted;
 
 /// How many entries a list holds in memory.
@@ -26,8 +26,6 @@ pub struct LineServer<'a, R: Wait, I, O> {
     alloc: Global,
     requests: Mutex<Requests<I>>,
     out: Mutex<O>,
-    /// The line whose rows the index's set has: they are deleted before another line is drawn.
-    deletes: Option<u64>,
 }
 
 impl<'a, R: Wait + Clock, I: BufRead, O: Write> LineServer<'a, R, I, O> {
@@ -38,22 +36,16 @@ impl<'a, R: Wait + Clock, I: BufRead, O: Write> LineServer<'a, R, I, O> {
             alloc,
             requests: Mutex::new(Requests::new(input)),
             out: Mutex::new(out),
-            deletes: None,
         }
     }
 
-    /// Why no line was drawn. Lines are drawn again.
-    pub fn resume(&mut self) -> Pause {
-        self.requests.lock(self.rt).resume()
-    }
-
-    /// The rows of this line are those of the index's set.
-    pub fn delete(&mut self, line: u64) {
-        self.deletes = Some(line);
+    /// Why no line is drawn any more.
+    pub fn end(&self) -> Pause {
+        self.requests.lock(self.rt).end()
     }
 
     fn draw(&self, line: &mut Vec<u8>) -> Option<u64> {
-        self.requests.lock(self.rt).draw(self.alloc, line)
+        self.requests.lock(self.rt).draw(line)
     }
 
     // If the output failed, no line is drawn any more.
@@ -80,9 +72,9 @@ impl<'a, R: Wait + Clock, I: BufRead, O: Write> LineServer<'a, R, I, O> {
     }
 
     // Makes the call of a line, and answers it. A list prints its entries before.
-    fn call<S: PageStore, T: DeadRows + Drop, J: OriginOn<S>>(
+    fn call<S: PageStore, J: OriginOn<S>>(
         &self,
-        index: &SharedIndex<S, T, J>,
+        index: &SharedIndex<S, Dead, J>,
         session: &mut SharedSession<J>,
         number: u64,
         text: &[u8],
@@ -96,7 +88,7 @@ impl<'a, R: Wait + Clock, I: BufRead, O: Write> LineServer<'a, R, I, O> {
         };
         match line {
             LedgerLine::Insert(entry) => added(session.insert(self.rt, index, entry)),
-            LedgerLine::Delete(_) => Reply::Refused(Fault::NoMemory),
+            LedgerLine::Delete(rows) => self.delete(index, session, rows),
             LedgerLine::List(range) => self.list(index, session, number, range),
             LedgerLine::Vacuum => cleaned_up(session.clean_up(self.rt, index)),
             LedgerLine::Checkpoint => checkpointed(session.checkpoint(self.rt, index)),
@@ -105,9 +97,9 @@ impl<'a, R: Wait + Clock, I: BufRead, O: Write> LineServer<'a, R, I, O> {
     }
 
     // Prints the entries of a range by batches, as a scan gives them.
-    fn list<S: PageStore, T: DeadRows + Drop, J: OriginOn<S>>(
+    fn list<S: PageStore, J: OriginOn<S>>(
         &self,
-        index: &SharedIndex<S, T, J>,
+        index: &SharedIndex<S, Dead, J>,
         session: &mut SharedSession<J>,
         number: u64,
         range: Range,
@@ -138,28 +130,28 @@ impl<'a, R: Wait + Clock, I: BufRead, O: Write> LineServer<'a, R, I, O> {
         unreachable!()
     }
 
-    // Deletes the entries of the set's rows, if they are to be.
-    fn delete_first<S: PageStore, T: DeadRows + Drop, J: OriginOn<S>>(
+    // Deletes the entries of these rows.
+    fn delete<S: PageStore, J: OriginOn<S>>(
         &self,
-        index: &SharedIndex<S, T, J>,
+        index: &SharedIndex<S, Dead, J>,
         session: &mut SharedSession<J>,
-        number: u32,
-    )
+        rows: Rows<'_>,
+    ) -> Reply
         ensures { number_of_seat session.new.seat ≡ number_of_seat session.old.seat }
     {
-        if number > 0 {
-            return;
-        }
-        if let Some(line) = self.deletes {
-            let reply = deleted(session.bulk_delete(self.rt, index, 0));
-            self.print(line, &reply);
+        let Ok(dead) = listed(self.alloc, rows) else {
+            return Reply::Refused(Fault::NoMemory);
+        };
+        match session.delete_rows(self.rt, index, dead) {
+            Ok(done) => deleted(done.told),
+            Err(not_put) => Reply::Refused(not_put.fault),
         }
     }
 
     // Draws lines and answers them, until none is drawn.
-    fn serve<S: PageStore, T: DeadRows + Drop, J: OriginOn<S>>(
+    fn serve<S: PageStore, J: OriginOn<S>>(
         &self,
-        index: &SharedIndex<S, T, J>,
+        index: &SharedIndex<S, Dead, J>,
         session: &mut SharedSession<J>,
     )
         ensures { number_of_seat session.new.seat ≡ number_of_seat session.old.seat }
@@ -225,7 +217,7 @@ fn print_entries<O: Write>(out: &mut O, number: u64, entries: &[Entry]) -> io::R
     Ok(())
 }
 
-impl<'a, S: PageStore, T: DeadRows + Drop, R: Wait + Clock, I: BufRead, O: Write> Client<S, T>
+impl<'a, S: PageStore, R: Wait + Clock, I: BufRead, O: Write> Client<S, Dead>
     for LineServer<'a, R, I, O> {
     type Out = ();
 
@@ -233,11 +225,10 @@ impl<'a, S: PageStore, T: DeadRows + Drop, R: Wait + Clock, I: BufRead, O: Write
 
     fn work<J: OriginOn<S>>(
         &self,
-        index: &SharedIndex<S, T, J>,
+        index: &SharedIndex<S, Dead, J>,
         session: &mut SharedSession<J>,
-        number: u32,
+        _number: u32,
     ) {
-        self.delete_first(index, session, number);
         self.serve(index, session);
     }
 }

@@ -33,44 +33,22 @@ Opens the index in this file, or makes one where there is no file. So many threa
 standard input, those of `ledger`, and answer each as it is done, behind the line's number.
 ";
 
-// Puts the rows of a line that deletes into the world's set. False if all is done.
-fn goes_on<R: Wait + Clock, I: BufRead, O: Write>(
-    server: &mut LineServer<'_, R, I, O>,
-    world: &mut Shared,
-) -> Result<bool, Fault> {
-    match server.resume() {
-        Pause::None | Pause::Ended => Ok(false),
-        Pause::Failed(error) => Err(fault_of(&error)),
-        Pause::Delete(line, dead) => {
-            if let Err(not_put) = world.put_set(0, dead) {
-                return Err(not_put.fault);
-            }
-            server.delete(line);
-            Ok(true)
-        }
-    }
-}
-
 // Serves the world until the input ends.
 fn serve_all<R: Wait + Clock + Threads + Sync, I: BufRead + Send + Drop, O: Write + Send + Drop>(
     rt: &R,
     alloc: Global,
-    mut world: Shared,
+    world: Shared,
     sessions: u32,
-    mut server: LineServer<'_, R, I, O>,
+    server: &LineServer<'_, R, I, O>,
 ) -> (Shared, Result<(), Fault>) {
-    for _ in rt.forever() {
-        match serve(rt, alloc, world, sessions, &server) {
-            Ok(served) => world = served.world,
-            Err(not_served) => return (not_served.world, Err(not_served.fault)),
-        }
-        match goes_on(&mut server, &mut world) {
-            Ok(true) => {}
-            Ok(false) => return (world, Ok(())),
-            Err(fault) => return (world, Err(fault)),
-        }
+    let world = match serve(rt, alloc, world, sessions, server) {
+        Ok(served) => served.world,
+        Err(not_served) => return (not_served.world, Err(not_served.fault)),
+    };
+    match server.end() {
+        Pause::Failed(error) => (world, Err(fault_of(&error))),
+        Pause::None | Pause::Ended => (world, Ok(())),
     }
-    unreachable!()
 }
 
 // Opens the index, serves it, and closes it.
@@ -81,7 +59,7 @@ fn run<
 >(rt: &R, alloc: Global, path: &str, sessions: u32, input: I, out: O) -> Result<(), Fault> {
     let world = opened(rt, alloc, path, sessions)?;
     let server = LineServer::new(rt, alloc, input, out);
-    let (world, served) = serve_all(rt, alloc, world, sessions, server);
+    let (world, served) = serve_all(rt, alloc, world, sessions, &server);
     let written = closed(world);
     served?;
     written

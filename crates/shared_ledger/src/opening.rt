@@ -23,7 +23,7 @@ const LIMITS: Limits = Limits {
 /// Pages that are held in memory.
 const FRAMES: u32 = 64;
 
-/// An index in a file, with one set of dead rows.
+/// An index in a file, with a place for a set of dead rows.
 pub type Shared = World<Store<FileDevice<Unknown>>, Dead>;
 
 // Makes an empty index.

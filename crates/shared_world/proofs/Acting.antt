@@ -3,23 +3,41 @@ use Rattle.std.proofs.Common.{◌≡◌, ◌≢◌, ◌==◌, if◌then◌else�
 use Rattle.shared_world.proofs.Imports.{append-nil, length-map, AllByRecursion, has_call, Entry, Ghosts, Answer, Begun, EventEffect, kind_of, StoreAndSlots, nat_cases, get_snoc, set_here, set_else, set_cases}
 use Rattle.shared_world.proofs.Imports.{KeepsRunning, AreOfRunning, EndsCall, AreOfRecord, AreOfPending, IsKnown, HasActed, Handed, IsAsHanded, event_of, IsWithinRoom, completed_of, LockMoment}
 use Rattle.shared_world.proofs.Imports.{Transition, IsPath, Owner, OfRecord, OfSession, is_owner, owned_by, gifts_of, Job, Scan, CompletedCall, PendingCall}
+use Rattle.index_model.specs.Row.{Row}
+use Rattle.shared_world.proofs.Words.{rows_asked}
+use Rattle.shared_world.specs.Transitions.{StaysUntil}
+use Rattle.shared_world.proofs.Handing.{sets_stay, sets_then}
 use Rattle.shared_world.proofs.Noting.{some_same, clash}
 use Rattle.shared_world.proofs.Owning.{same_test, other_test, all_both, all_so, all_mapped, owners_for, length_for, all_for, owned_nobody, owned_own, owned_else, gifts-append, handed_over, owned_by_record, owned_by_other_record, owned_by_other_session}
 
+-- no set is put
+pub stays : {S : Type 0} (spare : Option ℕ) (a : LockMoment S) → StaysUntil spare a a
+stays spare a = (sets_stay spare a.here.sets a.here.sets refl, refl)
+
+stays_then : {S : Type 0} (spare : Option ℕ) (a b c : LockMoment S) → StaysUntil spare a b → StaysUntil spare b c → StaysUntil spare a c
+stays_then {S} spare a b c one two = (
+  sets_then spare a.here.sets b.here.sets c.here.sets one.0 two.0,
+  two.1 ∙ ap (λ (m : LockMoment S). record m { here = record m.here { sets = c.here.sets } }) one.1,
+)
+
 -- one path after the other
-pub path_append : {S : Type 0} (g : Ghosts S) (a : LockMoment S) (xs ys : List (Transition S)) (b c : LockMoment S) → IsPath g a xs b → IsPath g b ys c → IsPath g a (xs ++ ys) c
-path_append {S} g a [] ys b c one two = subst (λ (m : LockMoment S). IsPath g m ys c) one two
-path_append g a (x ∷ xs) ys b c one two = (one.0, one.1, path_append g x.after xs ys b c one.2 two)
+path_after : {S : Type 0} (g : Ghosts S) (spare : Option ℕ) (a b : LockMoment S) (ys : List (Transition S)) (c : LockMoment S) → StaysUntil spare a b → IsPath g spare b ys c → IsPath g spare a ys c
+path_after g spare a b [] c one two = stays_then spare a b c one two
+path_after g spare a b (y ∷ ys) c one two = (stays_then spare a b y.before one two.0, two.1, two.2)
+
+pub path_append : {S : Type 0} (g : Ghosts S) (spare : Option ℕ) (a : LockMoment S) (xs ys : List (Transition S)) (b c : LockMoment S) → IsPath g spare a xs b → IsPath g spare b ys c → IsPath g spare a (xs ++ ys) c
+path_append g spare a [] ys b c one two = path_after g spare a b ys c one two
+path_append g spare a (x ∷ xs) ys b c one two = (one.0, one.1, path_append g spare x.after xs ys b c one.2 two)
 
 -- the moment of this world with so many records
 abbrev pub moment_of : {S : Type 0} → StoreAndSlots S → ℕ → LockMoment S
 moment_of here recorded = record { here = here; recorded = recorded }
 
 -- a job's call that has run on
-pub running_more : {S : Type 0} (g : Ghosts S) (s : ℕ) (job : Job) (seen from : ℕ) (given : List Entry) (ts us : List (Transition S))
-    → AllByRecursion (KeepsRunning g s) us → AreOfRunning g s job seen from given ts
-    → AreOfRunning g s job seen from (given ++ gifts_of us) (ts ++ us)
-running_more {S} g s job seen from given ts us on r = record {
+pub running_more : {S : Type 0} (g : Ghosts S) (s : ℕ) (job : Job) (rows : List Row) (seen from : ℕ) (given : List Entry) (ts us : List (Transition S))
+    → AllByRecursion (KeepsRunning g s) us → AreOfRunning g s job rows seen from given ts
+    → AreOfRunning g s job rows seen from (given ++ gifts_of us) (ts ++ us)
+running_more {S} g s job rows seen from given ts us on r = record {
   first = r.first;
   more = r.more ++ us;
   are = ap (λ (l : List (Transition S)). l ++ us) r.are;
@@ -39,8 +57,8 @@ module _ {S : Type 0} (g : Ghosts S) (handed : Handed) (w v : StoreAndSlots S) (
   abbrev n : ℕ
   n = length records
 
-  path_more : (us : List (Transition S)) (recorded : ℕ) → IsPath g (moment_of w n) us (moment_of v recorded) → IsPath g a.first (a.transitions ++ us) (moment_of v recorded)
-  path_more us recorded path = path_append g a.first a.transitions us (moment_of w n) (moment_of v recorded) a.path path
+  path_more : (us : List (Transition S)) (recorded : ℕ) → IsPath g handed.spare (moment_of w n) us (moment_of v recorded) → IsPath g handed.spare a.first (a.transitions ++ us) (moment_of v recorded)
+  path_more us recorded path = path_append g handed.spare a.first a.transitions us (moment_of w n) (moment_of v recorded) a.path path
 
   long_more : (owner : Owner) (us : List (Transition S)) → length (a.owners ++ owners_for owner us) ≡ length (a.transitions ++ us)
   long_more owner us = (let x = length-append a.owners (owners_for owner us) in let y = length-append a.transitions us in let z = length_for owner us in omega (arith, x, y, z, a.long))
@@ -69,16 +87,16 @@ module _ {S : Type 0} (g : Ghosts S) (handed : Handed) (w v : StoreAndSlots S) (
       (nat_cases t s)
 
   -- a job begins in a session
-  pub acts_begun : (s : ℕ) (p : PendingCall) → has_call w.slots s ≡ false → slice_get pending s ≡ Some None → p.from ≡ (g.state w.store).acts → p.seen ≡ n → p.given ≡ []
+  pub acts_begun : (s : ℕ) (p : PendingCall) → has_call w.slots s ≡ false → slice_get pending s ≡ Some None → rows_asked w.sets p.asked ≡ p.rows → p.from ≡ (g.state w.store).acts → p.seen ≡ n → p.given ≡ []
       → EventEffect g (kind_of (event_of s p.asked)) Begun w v → HasActed g handed v (slice_set pending s (Some p)) records
-  acts_begun s p free idle from seen none makes =
+  acts_begun s p free idle named from seen none makes =
       let t : Transition S = record { event = event_of s p.asked; answer = Begun; before = moment_of w n; after = moment_of v n } in
       let us : List (Transition S) = t ∷ [] in
       let mine : owned_by (OfSession s) (a.owners ++ owners_for (OfSession s) us) (a.transitions ++ us) ≡ us =
       owned_own (OfSession s) a.owners a.transitions us a.long ∙ ap (λ (l : List (Transition S)). l ++ us) (owned_nobody (OfSession s) a.owners a.transitions (none_idle s idle)) in
       let own : AreOfPending g s p us = record {
         most = nothing_within p.asked p.given none;
-        runs = record { first = t; more = []; are = refl; begun = record { event_is = refl; answer_is = refl; seen_is = sym seen; from_is = sym from; free = free }; unrecorded = refl; on = tt; given_is = none };
+        runs = record { first = t; more = []; are = refl; begun = record { event_is = refl; answer_is = refl; rows_are = named; seen_is = sym seen; from_is = sym from; free = free }; unrecorded = refl; on = tt; given_is = none };
       } in
       record {
         first = a.first;
@@ -86,7 +104,7 @@ module _ {S : Type 0} (g : Ghosts S) (handed : Handed) (w v : StoreAndSlots S) (
         owners = a.owners ++ owners_for (OfSession s) us;
         handed_in = a.handed_in;
         unrecorded = a.unrecorded;
-        path = path_more us n (refl, makes, refl);
+        path = path_more us n (stays handed.spare (moment_of w n), makes, stays handed.spare (moment_of v n));
         long = long_more (OfSession s) us;
         known = all_both _ a.owners (owners_for (OfSession s) us) (all_so (IsKnown pending records) _ a.owners (known_runs s p None idle) a.known) ((p, set_here pending s None (Some p) idle), tt);
         recorded = λ place r at. subst (AreOfRecord g place r) (sym (owned_else (OfRecord place) (OfSession s) a.owners a.transitions us a.long refl)) (a.recorded place r at);
@@ -100,9 +118,9 @@ module _ {S : Type 0} (g : Ghosts S) (handed : Handed) (w v : StoreAndSlots S) (
       }
 
   -- a job is done by one event, or refused as it begins
-  pub acts_at_once : (s : ℕ) (p : PendingCall) (answer : Answer) → has_call w.slots s ≡ false → p.from ≡ (g.state w.store).acts → p.seen ≡ n → p.given ≡ [] → (answer ≡ Begun → ⊥)
+  pub acts_at_once : (s : ℕ) (p : PendingCall) (answer : Answer) → has_call w.slots s ≡ false → rows_asked w.sets p.asked ≡ p.rows → p.from ≡ (g.state w.store).acts → p.seen ≡ n → p.given ≡ [] → (answer ≡ Begun → ⊥)
       → (g.state v.store).acts ≡ p.from → EventEffect g (kind_of (event_of s p.asked)) answer w v → HasActed g handed v pending (records ++ completed_of s p answer p.from ∷ [])
-  acts_at_once s p answer free from seen none never to makes =
+  acts_at_once s p answer free named from seen none never to makes =
       let r = completed_of s p answer p.from in
       let m = length (records ++ r ∷ []) in
       let longer = length-append records (r ∷ []) in
@@ -115,7 +133,7 @@ module _ {S : Type 0} (g : Ghosts S) (handed : Handed) (w v : StoreAndSlots S) (
         done = inl (record {
           one = t;
           are = refl;
-          begins = record { event_is = refl; answer_is = refl; seen_is = sym seen; from_is = sym from; free = free };
+          begins = record { event_is = refl; answer_is = refl; rows_are = named; seen_is = sym seen; from_is = sym from; free = free };
           never = never;
           none = none;
           makes = record { place_is = refl; next_is = omega (arith, longer); to_is = to };
@@ -127,7 +145,7 @@ module _ {S : Type 0} (g : Ghosts S) (handed : Handed) (w v : StoreAndSlots S) (
         owners = a.owners ++ owners_for (OfRecord n) us;
         handed_in = a.handed_in;
         unrecorded = a.unrecorded;
-        path = path_more us m (refl, makes, refl);
+        path = path_more us m (stays handed.spare (moment_of w n), makes, stays handed.spare (moment_of v m));
         long = long_more (OfRecord n) us;
         known = all_both _ a.owners (owners_for (OfRecord n) us) (all_so (IsKnown pending records) _ a.owners (known_longer m (omega (arith, longer))) a.known) (omega (arith, longer), tt);
         recorded = λ place q at. ⊎_elim
@@ -145,15 +163,15 @@ module _ {S : Type 0} (g : Ghosts S) (handed : Handed) (w v : StoreAndSlots S) (
       known_longer k l (OfSession t) h = h
 
   -- a running job goes on
-  pub acts_on : (s : ℕ) (p q : PendingCall) → slice_get pending s ≡ Some (Some p) → (us : List (Transition S)) → AllByRecursion (KeepsRunning g s) us → IsPath g (moment_of w n) us (moment_of v n)
-      → q.asked ≡ p.asked → q.from ≡ p.from → q.seen ≡ p.seen → IsWithinRoom q.asked q.given → q.given ≡ p.given ++ gifts_of us
+  pub acts_on : (s : ℕ) (p q : PendingCall) → slice_get pending s ≡ Some (Some p) → (us : List (Transition S)) → AllByRecursion (KeepsRunning g s) us → IsPath g handed.spare (moment_of w n) us (moment_of v n)
+      → q.asked ≡ p.asked → q.rows ≡ p.rows → q.from ≡ p.from → q.seen ≡ p.seen → IsWithinRoom q.asked q.given → q.given ≡ p.given ++ gifts_of us
       → HasActed g handed v (slice_set pending s (Some q)) records
-  acts_on s p q at us on path asked from seen most given =
+  acts_on s p q at us on path asked rows from seen most given =
       let was = a.running s p at in
       let own : AreOfPending g s q (owned_by (OfSession s) a.owners a.transitions ++ us) = record {
         most = most;
-        runs = subst (λ (x : Job × ℕ × ℕ × List Entry). AreOfRunning g s x.0 x.1 x.2 x.3 (owned_by (OfSession s) a.owners a.transitions ++ us)) (λ i. (sym asked i, sym seen i, sym from i, sym given i))
-            (running_more g s p.asked p.seen p.from p.given (owned_by (OfSession s) a.owners a.transitions) us on was.runs);
+        runs = subst (λ (x : Job × List Row × ℕ × ℕ × List Entry). AreOfRunning g s x.0 x.1 x.2 x.3 x.4 (owned_by (OfSession s) a.owners a.transitions ++ us)) (λ i. (sym asked i, sym rows i, sym seen i, sym from i, sym given i))
+            (running_more g s p.asked p.rows p.seen p.from p.given (owned_by (OfSession s) a.owners a.transitions) us on was.runs);
       } in
       record {
         first = a.first;
@@ -178,7 +196,7 @@ module _ {S : Type 0} (g : Ghosts S) (handed : Handed) (w v : StoreAndSlots S) (
   -- a running job ends
   pub acts_ended : (s : ℕ) (p : PendingCall) (at : slice_get pending s ≡ Some (Some p)) (answer : Answer) (to : ℕ) → (more last : List (Transition S))
       → AllByRecursion (KeepsRunning g s) more → gifts_of more ≡ []
-      → IsPath g (moment_of w n) (more ++ last) (moment_of v (length (records ++ completed_of s p answer to ∷ []))) → EndsCall g n (completed_of s p answer to) last
+      → IsPath g handed.spare (moment_of w n) (more ++ last) (moment_of v (length (records ++ completed_of s p answer to ∷ []))) → EndsCall g n (completed_of s p answer to) last
       → HasActed g handed v (slice_set pending s None) (records ++ completed_of s p answer to ∷ [])
   acts_ended s p at answer to more last on none path ends =
       let was = a.running s p at in
@@ -199,7 +217,7 @@ module _ {S : Type 0} (g : Ghosts S) (handed : Handed) (w v : StoreAndSlots S) (
           ran = ran ++ more;
           last = last;
           are = sym (append_assoc ran more last);
-          runs = subst (λ (l : List Entry). AreOfRunning g s p.asked p.seen p.from l (ran ++ more)) given (running_more g s p.asked p.seen p.from p.given ran more on was.runs);
+          runs = subst (λ (l : List Entry). AreOfRunning g s p.asked p.rows p.seen p.from l (ran ++ more)) given (running_more g s p.asked p.rows p.seen p.from p.given ran more on was.runs);
           ends = ends;
         });
       } in
@@ -243,7 +261,7 @@ acts_first g handed w pending was none = record {
   owners = [];
   handed_in = was;
   unrecorded = refl;
-  path = refl;
+  path = stays handed.spare (moment_of w 0);
   long = refl;
   known = tt;
   recorded = λ place r h. absurd cc;

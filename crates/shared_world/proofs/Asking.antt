@@ -3,8 +3,10 @@ use Rattle.std.proofs.Common.{◌≡◌, ◌<◌, ◌≤◌, ◌&&◌, not, Bool
 use Rattle.index_model.specs.Order.{IsPast, last_or}
 use Rattle.index_model.specs.declared.range.Range.{Range}
 use Rattle.schedule.specs.Ready.{MayComeNext, ReadyMayComeNext}
+use Rattle.index_model.specs.Row.{Row}
+use Rattle.shared_world.specs.Rows.{asked_with}
 use Rattle.shared_world.proofs.Imports.{append-nil, Action, ThereAtSomeMoment, AskScan, Call, at_some_moment_later, Entry, SetGhosts, Ghosts, is_last, AnswersEnd, GivesLess, RunsUntilLast, is_busy, ready_count, slot_add}
-use Rattle.shared_world.proofs.Imports.{has_call, slot_of, DeadSets, asked_by, Request, Answer, Gave, Ended, Op, OneCallRuns, Takes, GivesUp, StoreAndSlots, snapshot_of, Next, End, goes_does}
+use Rattle.shared_world.proofs.Imports.{has_call, slot_of, Request, Answer, Gave, Ended, Op, OneCallRuns, Takes, GivesUp, StoreAndSlots, snapshot_of, Next, End, goes_does}
 use Rattle.shared_world.proofs.Imports.{get_within, inside, World, OriginGhosts, OriginOnGhosts, GroupGhosts, Live, Job, Scan, PendingCall, IsEventDone, MayBeLeft, given_after, given_more, gift_of, IsBelowRoom, IsWithinRoom, HasRoomLeft, request_of}
 use Rattle.shared_world.proofs.Imports.{WasLeft, completed_of}
 use Rattle.shared_world.proofs.Happening.{keeps_going, keeps_ended}
@@ -35,20 +37,20 @@ ended_of (Some op) answer busy h = h
 
 -- a call that is left rightly: a scan, if its room isn't full, or another match may come next; any other,
 -- if it has no Add
-left_is : (start : Entry → Bool) (l more : List Action) (sets : DeadSets) (job : Job) (request : Request) (call : Call) (s : ℕ) (p : PendingCall)
-    (answer : Answer) (to ready : ℕ) (add added : Option ℕ) → added ≡ add → request_of job ≡ Some request → call.ask ≡ asked_by sets request
+left_is : (start : Entry → Bool) (l more : List Action) (set : Row → Bool) (job : Job) (request : Request) (call : Call) (s : ℕ) (p : PendingCall)
+    (answer : Answer) (to ready : ℕ) (add added : Option ℕ) → added ≡ add → request_of job ≡ Some request → call.ask ≡ asked_with set request
     → call.began ≡ p.from → call.given ≡ p.given → MayBeLeft job p.given ready add → length l ≤ to
     → ((range : Range) → call.ask ≡ AskScan range → 0 < ready → MayComeNext start l range call.began (length l) call.given) → WasLeft start (l ++ more) job (completed_of s p answer to) added
-left_is start l more sets (Scan range room) request call s p answer to ready add added same asks ask began given (inl below) le next = inl below
-left_is start l more sets (Scan range room) request call s p answer to ready add added same asks ask began given (inr some) le next =
-    let m = next range (ask ∙ ap (asked_by sets) (sym (some_same asks))) some in
+left_is start l more set (Scan range room) request call s p answer to ready add added same asks ask began given (inl below) le next = inl below
+left_is start l more set (Scan range room) request call s p answer to ready add added same asks ask began given (inr some) le next =
+    let m = next range (ask ∙ ap (asked_with set) (sym (some_same asks))) some in
     inr (record {
       entry = m.entry;
       matched = m.matched;
       was_there = at_some_moment_later start l more p.from (length l) to m.entry (omega arith) le (subst (λ (n : ℕ). ThereAtSomeMoment start l n (length l) m.entry) began m.was_there);
       beyond = subst (λ (es : List Entry). IsPast (last_or None es) m.entry) given m.beyond;
     })
-left_is start l more sets job request call s p answer to ready add added same asks ask began given may le next = same ∙ may
+left_is start l more set job request call s p answer to ready add added same asks ask began given may le next = same ∙ may
 
 -- what an answer gives stands after what was given
 pub given_as_more : (answer : Answer) (given : List Entry) → given_after answer given ≡ given ++ gift_of answer
@@ -101,10 +103,10 @@ module _ {S T J : Type 0} {g : Ghosts S} {rows : SetGhosts T} {past : OriginOnGh
       let was = snapshot_of w k.history k.calls in
       let new = snapshot_of v r.then_history r.then_calls in
       let given : given_after answer y.call.given ≡ (given_more p answer).given = ap (given_after answer) y.given_is ∙ given_as_more answer p.given in
-      keeps_going g contents acts calls (j.kept_then contents acts calls) w v next.sets self.start (pending_in self) (log_in self) k next.later.durable s p one (given_more p answer) here.found new
+      keeps_going g contents acts calls (j.kept_then contents acts calls) w v j.handed self.start (pending_in self) (log_in self) k next.later.durable s p one (given_more p answer) here.found new
       (subst (λ l. MovesOnTo y.number y.call l was new) given
       (moved_on y.number y.call answer was new (goes_on g w v s here.has answer did) (moved g contents s Takes answer was new k.fit (goes_does r.goes) y.number y.call y.is)))
-      refl r.fits (λ h. (r.goes.crash h).keeps) refl refl refl (one_more_within p.asked p.given answer room)
+      refl r.fits (λ h. (r.goes.crash h).keeps) refl refl refl refl (one_more_within p.asked p.given answer room)
 
   -- ... and after it was given up
   end_keeps : ReadyMayComeNext g → (answer : Answer) → IsEventDone g (End s) answer w v → MayBeLeft p.asked p.given (ready_count (slot_of w.slots s)) (slot_add (slot_of w.slots s)) → (to : ℕ) → to ≡ (g.state v.store).acts
@@ -121,10 +123,10 @@ module _ {S T J : Type 0} {g : Ghosts S} {rows : SetGhosts T} {past : OriginOnGh
       let ready = ready_count (slot_of w.slots s) in
       let until : to ≡ length new.history = to_is ∙ r.fits.explains.count in
       let long : length k.history ≤ to = (let x = ap (λ (l : List Action). length l) e.to.history_is in let z = length-append k.history e.to.more in omega (arith, until, x, z)) in
-      keeps_ended g contents acts calls (j.kept_then contents acts calls) w v next.sets self.start (pending_in self) (log_in self) k next.later.durable s p one here.found answer to new e
+      keeps_ended g contents acts calls (j.kept_then contents acts calls) w v j.handed self.start (pending_in self) (log_in self) k next.later.durable s p one here.found answer to new e
       refl r.fits (λ h. (r.goes.crash h).keeps) until
       (λ _. subst (λ (l : List Action). WasLeft contents l p.asked (completed_of s p answer to) e.to.after.added) (sym e.to.history_is)
-      (left_is contents k.history e.to.more w.sets p.asked y.request y.call s p answer to ready (slot_add (slot_of w.slots s)) e.to.after.added add y.asks y.ask_is y.began_is y.given_is may long
+      (left_is contents k.history e.to.more y.set p.asked y.request y.call s p answer to ready (slot_add (slot_of w.slots s)) e.to.after.added add y.asks y.ask_is y.began_is y.given_is may long
       (λ range asks some. law contents was s y.number y.call range k.fit y.is asks some)))
 
   -- asking for the next entry

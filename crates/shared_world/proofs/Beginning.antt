@@ -10,7 +10,10 @@ use Rattle.shared_world.proofs.Imports.{EventFollows, Fits, Event, goes_does, be
 use Rattle.shared_world.proofs.Imports.{upkeep_of, begins, IsBlocked, KeepsFitting, completed_of}
 use Rattle.shared_world.proofs.Noting.{set_same, busy_is, OthersRunOn, rests_there, matches_runs, matches_stays}
 use Rattle.shared_world.proofs.Handing.{IsMadeByEvent}
-use Rattle.shared_world.proofs.Sharing.{pending_in, log_in, KeepsWith, CarriesOn}
+use Rattle.shared_world.specs.Kept.{IsToRemove}
+use Rattle.shared_world.specs.Rows.{set_asked}
+use Rattle.shared_world.proofs.Words.{rows_asked}
+use Rattle.shared_world.proofs.Sharing.{pending_in, log_in, asked_still, KeepsWith, CarriesOn}
 use Rattle.shared_world.proofs.Acting.{acts_begun, acts_at_once}
 use Rattle.shared_world.proofs.Transiting.{makes_of}
 use Rattle.shared_world.proofs.Happening.{keeps_begun, keeps_refused, keeps_upkept}
@@ -80,7 +83,7 @@ module _ {S T J : Type 0} {g : Ghosts S} {rows : SetGhosts T} {past : OriginOnGh
     (event : Event) (event_is : event ≡ event_of s p.asked) (answer : Answer)
     (goes : ForEachHistory g (inside rows self.world) (inside rows world) (EventFollows g (inside rows self.world) (inside rows world) event answer))
     (sure : EventAlways g (kind_of event) answer (inside rows self.world) (inside rows world)) (from : p.from ≡ (g.state self.world.store).acts) (seen : p.seen ≡ length (log_in self))
-    (given : p.given ≡ []) where
+    (given : p.given ≡ []) (named : rows_asked (inside rows self.world).sets p.asked ≡ p.rows) where
   abbrev w : StoreAndSlots S
   w = inside rows self.world
 
@@ -102,11 +105,15 @@ module _ {S T J : Type 0} {g : Ghosts S} {rows : SetGhosts T} {past : OriginOnGh
   makes : EventEffect g (kind_of event) answer w v
   makes = makes_of g event answer w v next.sessions goes sure
 
+  -- which set it is to remove
+  removes : IsToRemove j.handed p.asked p.rows (set_asked w.sets p.asked)
+  removes = record { rows_are = sym named; stays = asked_still self p.asked }
+
   -- its call has begun
   begin_keeps_begun : answer ≡ Begun → KeepsWith self w (pending_in self) (log_in self) → KeepsWith self v (slice_set (pending_in self) s (Some p)) (log_in self)
   begin_keeps_begun told all honest contents acts calls so = by (asks_one s p.asked)
     where
-      by : AsksCall s p.asked ⊎ AsksStore s p.asked → KeepsFitting g contents acts calls (j.kept_then contents acts calls) v self.start (slice_set (pending_in self) s (Some p)) (log_in self)
+      by : AsksCall s p.asked ⊎ AsksStore s p.asked → KeepsFitting g j.handed contents acts calls (j.kept_then contents acts calls) v self.start (slice_set (pending_in self) s (Some p)) (log_in self)
       by (inl a) =
           let k = all (next.later.honest honest) contents acts calls so in
           let r = goes honest contents k.history k.calls k.fit in
@@ -114,8 +121,8 @@ module _ {S T J : Type 0} {g : Ghosts S} {rows : SetGhosts T} {past : OriginOnGh
           let new = snapshot_of v r.then_history r.then_calls in
           let does = subst (λ (kd : Kind). EventDoes g contents kd answer was new) (kind ∙ a.kind) (goes_does r.goes) in
           let b : HasBegun s a.request was new = subst (λ (x : Answer). BeginMeans s a.request (begun_of x) was new) told (begins_told g contents s a.request answer was new does) in
-          keeps_begun g contents acts calls (j.kept_then contents acts calls) w v next.sets self.start (pending_in self) (log_in self) k next.later.durable s p a.request idle
-          a.asks (from ∙ k.fit.explains.count) seen given
+          keeps_begun g contents acts calls (j.kept_then contents acts calls) w v j.handed self.start (pending_in self) (log_in self) k next.later.durable s p a.request idle
+          a.asks removes (from ∙ k.fit.explains.count) seen given
           (subst (λ (m : Moment S). Fits g contents m) (λ i. snapshot_of v (b.history_is i) (b.calls_is i)) r.fits)
           (λ h. subst (λ (m : Moment S). KeepsHistory g contents m) (λ i. snapshot_of v (b.history_is i) (b.calls_is i)) (r.goes.crash h).keeps)
       by (inr a) = absurd (upkeep_not_begun a.upkeep w.slots v.slots
@@ -125,11 +132,11 @@ module _ {S T J : Type 0} {g : Ghosts S} {rows : SetGhosts T} {past : OriginOnGh
   begin_keeps_done : RefusedCallsFit g → (answer ≡ Begun → ⊥) → s < length v.slots → KeepsWith self w (pending_in self) (log_in self)
       → KeepsWith self v (pending_in self) ((log_in self) ++ completed_of s p answer p.from ∷ [])
   begin_keeps_done law never within all honest contents acts calls so =
-      subst (λ l. KeepsFitting g contents acts calls (j.kept_then contents acts calls) v self.start l ((log_in self) ++ completed_of s p answer p.from ∷ []))
+      subst (λ l. KeepsFitting g j.handed contents acts calls (j.kept_then contents acts calls) v self.start l ((log_in self) ++ completed_of s p answer p.from ∷ []))
       (set_same (pending_in self) s None idle) (by (asks_one s p.asked))
     where
       by : AsksCall s p.asked ⊎ AsksStore s p.asked
-          → KeepsFitting g contents acts calls (j.kept_then contents acts calls) v self.start (slice_set (pending_in self) s None) ((log_in self) ++ completed_of s p answer p.from ∷ [])
+          → KeepsFitting g j.handed contents acts calls (j.kept_then contents acts calls) v self.start (slice_set (pending_in self) s None) ((log_in self) ++ completed_of s p answer p.from ∷ [])
       by (inl a) =
           let k = all (next.later.honest honest) contents acts calls so in
           let r = goes honest contents k.history k.calls k.fit in
@@ -142,9 +149,9 @@ module _ {S T J : Type 0} {g : Ghosts S} {rows : SetGhosts T} {past : OriginOnGh
           let keeps = λ (h : KeepsHistory g contents was).
           subst (λ (m : Moment S). KeepsHistory g contents m) (λ i. snapshot_of v (t.silent.history_is i) (t.silent.calls_is i)) (r.goes.crash h).keeps in
           subst (λ (x : Answer).
-          KeepsFitting g contents acts calls (j.kept_then contents acts calls) v self.start (slice_set (pending_in self) s None) ((log_in self) ++ completed_of s p x p.from ∷ [])) (sym f.1)
-          (keeps_refused g contents acts calls (j.kept_then contents acts calls) w v next.sets self.start (pending_in self) (log_in self) k next.later.durable s p a.request
-          f.0 idle a.asks (from ∙ k.fit.explains.count) seen given
+          KeepsFitting g j.handed contents acts calls (j.kept_then contents acts calls) v self.start (slice_set (pending_in self) s None) ((log_in self) ++ completed_of s p x p.from ∷ [])) (sym f.1)
+          (keeps_refused g contents acts calls (j.kept_then contents acts calls) w v j.handed self.start (pending_in self) (log_in self) k next.later.durable s p a.request
+          f.0 idle a.asks removes (from ∙ k.fit.explains.count) seen given
           (begins_settled g w.store (one_vacuums w.slots) w.sets a.request (slice_get w.slots s) f.0
           (subst (λ (x : Answer). IsCaused (causes_of_begun_at g w.store (one_vacuums w.slots) w.sets a.request (slice_get w.slots s)) x) f.1
           (subst (λ (kd : Kind). EventAlways g kd answer w v) a.kind always).causes))
@@ -158,7 +165,7 @@ module _ {S T J : Type 0} {g : Ghosts S} {rows : SetGhosts T} {past : OriginOnGh
           let does = subst (λ (kd : Kind). EventDoes g contents kd answer was new) (kind ∙ a.kind) (goes_does r.goes) in
           let silent : IsSameHistory was new = keeps_silent g contents a.upkeep answer was new does in
           let since : p.from ≡ length k.history = from ∙ k.fit.explains.count in
-          keeps_upkept g contents acts calls (j.kept_then contents acts calls) w v next.sets self.start (pending_in self) (log_in self) k next.later.durable s p a.upkeep
+          keeps_upkept g contents acts calls (j.kept_then contents acts calls) w v j.handed self.start (pending_in self) (log_in self) k next.later.durable s p a.upkeep
           answer idle a.asks since seen (ap (λ (l : List Entry). length l) given)
           (subst (λ (kd : Kind). AnswersEvent kd answer w.slots v.slots) a.kind always.answers)
           (λ count e. (let n = kept_of g a.upkeep answer was new does.also.happens count e in (n.0 ∙ sym since, n.1)))
@@ -203,7 +210,7 @@ module _ {S T J : Type 0} {g : Ghosts S} {rows : SetGhosts T} {past : OriginOnGh
       let runs = begin_runs told in
       record {
         keeps = begin_keeps_begun told;
-        acts = λ a. acts_begun g j.handed w v (pending_in self) (log_in self) a s p free idle from seen given
+        acts = λ a. acts_begun g j.handed w v (pending_in self) (log_in self) a s p free idle named from seen given
             (subst (λ (x : Event × Answer). EventEffect g (kind_of x.0) x.1 w v) (λ i. (event_is i, told i)) makes);
         matches = matches_runs w.slots v.slots (pending_in self) s p (get_within (pending_in self) s None idle) runs.0 runs.1;
         long = length-set (pending_in self) s (Some p);
@@ -216,7 +223,7 @@ module _ {S T J : Type 0} {g : Ghosts S} {rows : SetGhosts T} {past : OriginOnGh
       let inside_it = get_within (pending_in self) s None idle in
       record {
         keeps = begin_keeps_done law never (omega (arith, inside_it, self.seats, next.sessions));
-        acts = λ a. acts_at_once g j.handed w v (pending_in self) (log_in self) a s p answer free from seen given never (begin_acts ∙ sym from)
+        acts = λ a. acts_at_once g j.handed w v (pending_in self) (log_in self) a s p answer free named from seen given never (begin_acts ∙ sym from)
             (subst (λ (e : Event). EventEffect g (kind_of e) answer w v) event_is makes);
         matches = matches_stays w.slots v.slots (pending_in self) (done_runs never);
         long = refl;

@@ -1,6 +1,9 @@
 -- What is known before a run's first job and once all jobs are done.
 use Rattle.std.proofs.Common.{◌≡◌, ◌≢◌, ◌⊎◌, ◌+◌, Bool, true, false, ℕ, zero, suc, ◌<◌, ◌≤◌, List, [], ◌∷◌, ◌++◌, length, replicate, Option, Some, None, slice_get, refl, sym, ap, ◌∙◌, subst, inl, inr, ⊎_elim, arith}
+use Rattle.std.proofs.lemmas.Bool.{false_from_ne_true}
 use mathlib.Core.Logic.{∥∥₁_elim}
+use Rattle.session_calls.specs.TheoremCalls.{DeadSets}
+use Rattle.shared_world.specs.Handed.{Handed}
 use Rattle.shared_world.proofs.Imports.{Action, Call, Entry, Ghosts, has_call, Op, StoreAndSlots, jobs_in, Job, Record, Pending, CompletedCall, PendingCall, AreBooked, AreIdle, jobs_of_records, KeepsFitting, KeepsAll, MatchesPending}
 use Rattle.shared_world.proofs.Imports.{note_of, notes_of, jobs_of, pending_calls, get_front, get_last, get_there, get_within, nat_cases, GroupGhosts, SessionSeat, IsSeatAt, view_of}
 use Rattle.shared_world.proofs.Noting.{clash}
@@ -27,8 +30,8 @@ none_waits pending idle session p at =
     absurd (let both = sym none ∙ at in cc)
 
 -- ... nor is a call
-pub no_call_waits : (calls : List (Option PendingCall)) (pending : List (Option Pending)) → calls ≡ pending_calls pending → NoneRuns pending → (session : ℕ) (p : PendingCall) → slice_get calls session ≡ Some (Some p) → ⊥
-no_call_waits calls pending is none session p at = (let q = call_there pending session p (ap (λ (l : List (Option PendingCall)). slice_get l session) (sym is) ∙ at) in none session q.0 q.1)
+pub no_call_waits : (sets : DeadSets) (calls : List (Option PendingCall)) (pending : List (Option Pending)) → calls ≡ pending_calls sets pending → NoneRuns pending → (session : ℕ) (p : PendingCall) → slice_get calls session ≡ Some (Some p) → ⊥
+no_call_waits sets calls pending is none session p at = (let q = call_there sets pending session p (ap (λ (l : List (Option PendingCall)). slice_get l session) (sym is) ∙ at) in none session q.0 q.1)
 
 pub none_at : (pending : List (Option Pending)) → NoneRuns pending → (session : ℕ) → session < length pending → slice_get pending session ≡ Some None
 none_at [] none session l = absurd (omega arith)
@@ -40,10 +43,10 @@ none_at (p ∷ ps) none (suc session) l = none_at ps (λ s q e. none (suc s) q e
 abbrev pub idle_calls : ℕ → List (Option PendingCall)
 idle_calls n = replicate n None
 
-pub none_are : (pending : List (Option Pending)) → NoneRuns pending → pending_calls pending ≡ idle_calls (length pending)
-none_are [] none = refl
-none_are (None ∷ ps) none = ap (λ (l : List (Option PendingCall)). None ∷ l) (none_are ps (λ s q e. none (suc s) q e))
-none_are (Some p ∷ ps) none = absurd (none 0 p refl)
+pub none_are : (sets : DeadSets) (pending : List (Option Pending)) → NoneRuns pending → pending_calls sets pending ≡ idle_calls (length pending)
+none_are sets [] none = refl
+none_are sets (None ∷ ps) none = ap (λ (l : List (Option PendingCall)). None ∷ l) (none_are sets ps (λ s q e. none (suc s) q e))
+none_are sets (Some p ∷ ps) none = absurd (none 0 p refl)
 
 none_next : (n : ℕ) → idle_calls n ++ None ∷ [] ≡ idle_calls (suc n)
 none_next zero = refl
@@ -62,24 +65,24 @@ none_long zero = refl
 none_long (suc n) = ap suc (none_long n)
 
 -- seats of sessions that run nothing, and the next one
-pub seats_more : {J : Type 0} {group : GroupGhosts J} (seats : List (Option (SessionSeat J group))) (n : ℕ) (seat : SessionSeat J group) → n ≡ length seats → seat.session ≡ n → (view_of seat.pass).call ≡ None
-    → ((s : ℕ) → s < n → IsSeatAt s (Some None) (slice_get seats s)) → (s : ℕ) → s < n + 1 → IsSeatAt s (Some None) (slice_get (seats ++ Some seat ∷ []) s)
-seats_more {J} {group} seats n seat long session call each s l = ⊎_elim here else (nat_cases s n)
+pub seats_more : {J : Type 0} {group : GroupGhosts J} (sets : DeadSets) (seats : List (Option (SessionSeat J group))) (n : ℕ) (seat : SessionSeat J group) → n ≡ length seats → seat.session ≡ n → (view_of seat.pass).call ≡ None
+    → ((s : ℕ) → s < n → IsSeatAt sets s (Some None) (slice_get seats s)) → (s : ℕ) → s < n + 1 → IsSeatAt sets s (Some None) (slice_get (seats ++ Some seat ∷ []) s)
+seats_more {J} {group} sets seats n seat long session call each s l = ⊎_elim here else (nat_cases s n)
   where
-    here : s ≡ n → IsSeatAt s (Some None) (slice_get (seats ++ Some seat ∷ []) s)
-    here e = subst (λ (o : Option (Option (SessionSeat J group))). IsSeatAt s (Some None) o) (sym (ap (slice_get (seats ++ Some seat ∷ [])) (e ∙ long) ∙ get_last seats (Some seat))) (session ∙ sym e, call)
+    here : s ≡ n → IsSeatAt sets s (Some None) (slice_get (seats ++ Some seat ∷ []) s)
+    here e = subst (λ (o : Option (Option (SessionSeat J group))). IsSeatAt sets s (Some None) o) (sym (ap (slice_get (seats ++ Some seat ∷ [])) (e ∙ long) ∙ get_last seats (Some seat))) (session ∙ sym e, call)
 
-    else : s ≢ n → IsSeatAt s (Some None) (slice_get (seats ++ Some seat ∷ []) s)
+    else : s ≢ n → IsSeatAt sets s (Some None) (slice_get (seats ++ Some seat ∷ []) s)
     else ne =
         let x = get_there seats s (omega (arith, l, ne, long)) in
-        subst (λ (o : Option (Option (SessionSeat J group))). IsSeatAt s (Some None) o) (x.1 ∙ sym (get_front seats (Some seat ∷ []) s x.0 x.1)) (each s (omega (arith, l, ne)))
+        subst (λ (o : Option (Option (SessionSeat J group))). IsSeatAt sets s (Some None) o) (x.1 ∙ sym (get_front seats (Some seat ∷ []) s x.0 x.1)) (each s (omega (arith, l, ne)))
 
-pub seats_as : {J : Type 0} {group : GroupGhosts J} (n : ℕ) (seats others : List (Option (SessionSeat J group))) → seats ≡ others → ((s : ℕ) → s < n → IsSeatAt s (Some None) (slice_get others s)) → (s : ℕ) → s < n → IsSeatAt s (Some None) (slice_get seats s)
-seats_as {J} {group} n seats others same each s l = subst (λ (xs : List (Option (SessionSeat J group))). IsSeatAt s (Some None) (slice_get xs s)) (sym same) (each s l)
+pub seats_as : {J : Type 0} {group : GroupGhosts J} (sets : DeadSets) (n : ℕ) (seats others : List (Option (SessionSeat J group))) → seats ≡ others → ((s : ℕ) → s < n → IsSeatAt sets s (Some None) (slice_get others s)) → (s : ℕ) → s < n → IsSeatAt sets s (Some None) (slice_get seats s)
+seats_as {J} {group} sets n seats others same each s l = subst (λ (xs : List (Option (SessionSeat J group))). IsSeatAt sets s (Some None) (slice_get xs s)) (sym same) (each s l)
 
 -- ... and no session at all has a call
 pub all_idle : (slots : List (Option Op)) (calls : List (Option PendingCall)) → ∥ MatchesPending slots calls ∥₁ → ((session : ℕ) (p : PendingCall) → slice_get calls session ≡ Some (Some p) → ⊥) → AreIdle slots
-all_idle slots calls m none session = no (has_call slots session) (λ yes. ∥∥₁_elim m (λ x y. absurd x) (λ k. clash (has_call slots session) yes (rests k)))
+all_idle slots calls m none session = false_from_ne_true (has_call slots session) (λ yes. ∥∥₁_elim m (λ x y. absurd x) (λ k. clash (has_call slots session) yes (rests k)))
   where
     lt_or : (l : List (Option PendingCall)) (n : ℕ) → ((o : Option PendingCall) × (slice_get l n ≡ Some o)) ⊎ (length l ≤ n)
     lt_or [] n = inr (omega arith)
@@ -93,19 +96,15 @@ all_idle slots calls m none session = no (has_call slots session) (λ yes. ∥�
     rests : MatchesPending slots calls → has_call slots session ≡ false
     rests k = ⊎_elim (λ h. none_in k h.0 h.1) (λ l. k.beyond session l) (lt_or calls session)
 
-    no : (b : Bool) → (b ≡ true → ⊥) → b ≡ false
-    no true f = absurd (f refl)
-    no false f = refl
-
 -- what is kept, if no call runs
-pub keeps_nothing_pending : {S : Type 0} (g : Ghosts S) (stood kept_then : (Entry → Bool) → List Action → List Call → Type 0)
+pub keeps_nothing_pending : {S : Type 0} (g : Ghosts S) (handed : Handed) (stood kept_then : (Entry → Bool) → List Action → List Call → Type 0)
     (now : StoreAndSlots S) (start : ℕ) (pending : List (Option PendingCall)) (log : List CompletedCall)
     → ((session : ℕ) (p : PendingCall) → slice_get pending session ≡ Some (Some p) → ⊥)
-    → KeepsAll g stood kept_then now start pending log → KeepsAll g stood kept_then now start [] log
-keeps_nothing_pending g stood kept_then now start pending log none all honest contents history calls so = done (all honest contents history calls so)
+    → KeepsAll g handed stood kept_then now start pending log → KeepsAll g handed stood kept_then now start [] log
+keeps_nothing_pending g handed stood kept_then now start pending log none all honest contents history calls so = done (all honest contents history calls so)
   where
-    done : KeepsFitting g contents history calls (kept_then contents history calls) now start pending log
-        → KeepsFitting g contents history calls (kept_then contents history calls) now start [] log
+    done : KeepsFitting g handed contents history calls (kept_then contents history calls) now start pending log
+        → KeepsFitting g handed contents history calls (kept_then contents history calls) now start [] log
     done k = record {
       history = k.history;
       calls = k.calls;

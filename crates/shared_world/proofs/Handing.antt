@@ -1,7 +1,9 @@
 -- What is known of a world as it was handed in, after an event.
-use Rattle.std.proofs.Common.{◌≡◌, ◌∙◌, ℕ, List, map, Option, length, ap, subst}
+use Rattle.std.proofs.Common.{◌≡◌, ◌∙◌, ℕ, List, map, Option, Some, None, length, slice_get, sym, ap, subst}
 use Rattle.page_action.proofs.Laters.{later_trans}
 use Rattle.schedule.proofs.Keeping.{Laws}
+use Rattle.session_calls.specs.TheoremCalls.{DeadSets}
+use Rattle.shared_world.specs.Handed.{SetsGo}
 use Rattle.shared_world.proofs.Imports.{SetGhosts, Continues, State, Backing, IsLater, Ghosts, StoreAndSlots, Op, SameSessions, inside, World, Handed, IsAsHanded, ComesOf, StillFollows}
 
 -- an event has made this world of that one: its sessions and sets are the same, its device is a later one,
@@ -27,16 +29,26 @@ pub comes_on : {S : Type 0} (g : Ghosts S) (first : Handed) (start : ℕ) (w v :
 comes_on g first start w v next c = record {
   start_is = c.start_is;
   sessions_are = next.sessions ∙ c.sessions_are;
-  sets_are = next.sets ∙ c.sets_are;
+  sets_are = subst (SetsGo first.spare first.sets) (sym next.sets) c.sets_are;
   later = later_trans first.backing (g.backing w.store) (g.backing v.store) c.later next.later;
 }
+
+-- the same sets
+pub sets_stay : (spare : Option ℕ) (old new : DeadSets) → new ≡ old → SetsGo spare old new
+sets_stay None old new e = e
+sets_stay (Some place) old new e = (ap (λ (l : DeadSets). length l) e, λ at other. ap (λ (l : DeadSets). slice_get l at) e)
+
+-- they go on from there
+pub sets_then : (spare : Option ℕ) (a b c : DeadSets) → SetsGo spare a b → SetsGo spare b c → SetsGo spare a c
+sets_then None a b c one two = two ∙ one
+sets_then (Some place) a b c one two = (two.0 ∙ one.0, λ at other. two.1 at other ∙ one.1 at other)
 
 -- a world as it was handed in, so many actions being there
 pub comes_first : {S : Type 0} (g : Ghosts S) (laws : Laws g) (handed : Handed) (start : ℕ) (w : StoreAndSlots S) → start ≡ (g.state w.store).acts → IsAsHanded g handed w → ComesOf g handed start w
 comes_first g laws handed start w is was = record {
   start_is = is ∙ ap (λ (st : State). st.acts) was.state_is;
   sessions_are = ap (λ (l : List (Option Op)). length l) was.slots_are;
-  sets_are = was.sets_are;
+  sets_are = sets_stay handed.spare handed.sets w.sets was.sets_are;
   later = subst (λ (b : Backing). IsLater b (g.backing w.store)) was.backing_is (laws.follows_later w.store w.store (laws.follows_same w.store));
 }
 

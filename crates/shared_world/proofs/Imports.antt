@@ -45,7 +45,8 @@ pub use Rattle.session_seats.specs.declared.job.Job.TheVariants.{Scan}
 pub use Rattle.shared_world.specs.Acted.{AreOfPending, AreOfRecord, AreOfRunning, EndsCall, HasActed, IsKnown, KeepsRunning, MayBeLeft}
 pub use Rattle.shared_world.specs.Doing.{IsEventDone, given_after}
 pub use Rattle.shared_world.specs.Jobs.{IsBelowRoom, IsWithinRoom, begins, event_of, request_of, upkeep_of}
-pub use Rattle.shared_world.specs.Kept.{CallFollows, HasEndedBy, IsBlocked, IsInTime, WasLeft, IsOurs, IsPending, IsSince, KeepsAll, KeepsFitting, Lists, ListsCall, ListsUpkeep, MatchesPending}
+pub use Rattle.shared_world.proofs.Words.{CallFollows, HasEndedBy, IsBlocked, Lists}
+pub use Rattle.shared_world.specs.Kept.{IsInTime, WasLeft, IsOurs, IsPending, IsSince, KeepsAll, KeepsFitting, ListsCall, ListsUpkeep, MatchesPending}
 pub use Rattle.shared_world.specs.Kept.{RunsCall, ending_by}
 pub use Rattle.shared_world.specs.Leaving.{HasRoomLeft, LeavesCall, call_in, is_begun}
 pub use Rattle.shared_world.specs.declared.live.Live.{Live}

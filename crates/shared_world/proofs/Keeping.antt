@@ -3,6 +3,7 @@ use Rattle.std.proofs.Common.{◌≡◌, ◌≢◌, ◌⊎◌, Bool, ℕ, zero, 
 use Rattle.shared_world.proofs.Imports.{append-nil, Action, Call, Running, Entry, at_some_moment_later, Ghosts, OneCallRuns, KeepsHistory, StoreAndSlots, snapshot_of, Fits, nat_cases, get_front}
 use Rattle.shared_world.proofs.Imports.{get_snoc, get_within, get_there, set_else, set_cases, Job, Scan, CompletedCall, PendingCall, WasLeft, ListsCall, ListsUpkeep, Lists, RunsCall, IsPending, IsOurs}
 use Rattle.shared_world.proofs.Imports.{CallFollows, IsSince, IsInTime, KeepsFitting}
+use Rattle.shared_world.specs.Handed.{Handed}
 use Rattle.shared_world.proofs.Noting.{some_same}
 
 below_snoc : {A : Type 0} (xs : List A) (x : A) (j : ℕ) → j < length (xs ++ x ∷ []) → (j < length xs) ⊎ (j ≡ length xs)
@@ -25,9 +26,9 @@ abbrev pub AllBy : ℕ → List Action → Type 0
 AllBy number more = (place : ℕ) (action : Action) → slice_get more place ≡ Some action → action.by ≡ number
 
 module _ {S : Type 0} (g : Ghosts S) (contents : Entry → Bool) (acts : List Action) (old : List Call) (KeptThen : Type 0)
-    (w v : StoreAndSlots S) (sets_same : v.sets ≡ w.sets) (start : ℕ) (pending : List (Option PendingCall)) (records : List CompletedCall) where
+    (w v : StoreAndSlots S) (handed : Handed) (start : ℕ) (pending : List (Option PendingCall)) (records : List CompletedCall) where
   abbrev pub Kept : Type 0
-  Kept = KeepsFitting g contents acts old KeptThen w start pending records
+  Kept = KeepsFitting g handed contents acts old KeptThen w start pending records
 
   -- an event of one session changes no call but that of this number
   pub record Touches (k : Kept) (s i : ℕ) (more : List Action) (calls : List Call) : Type 0 where
@@ -40,7 +41,7 @@ module _ {S : Type 0} (g : Ghosts S) (contents : Entry → Bool) (acts : List Ac
     pub new : (j : ℕ) → j < length calls → (j < length k.calls) ⊎ (j ≡ i)
     pub within : (n : ℕ) (a : Action) → slice_get more n ≡ Some a → i < length calls
     pub free : (q : ℕ) → slice_get k.at q ≡ Some (Some i) → ⊥
-    pub apart : (t : ℕ) (q : PendingCall) → t ≢ s → (y : RunsCall w.sets (length old) k.calls t q) → y.number ≢ i
+    pub apart : (t : ℕ) (q : PendingCall) → t ≢ s → (y : RunsCall handed (length old) k.calls t q) → y.number ≢ i
     -- no other running call is the session's
     pub alone : (j : ℕ) → j ≢ i → (h : IsPending k.calls pending j) → h.call.session ≢ s
     pub less : (g.backing w.store).durable ≤ (g.backing v.store).durable
@@ -54,7 +55,7 @@ module _ {S : Type 0} (g : Ghosts S) (contents : Entry → Bool) (acts : List Ac
   listed_call k j q h =
       let t = get_there records q (omega (arith, k.long, get_within k.at q (Some j) h)) in
       ⊎_elim
-      (λ (l : ListsCall contents k.history w.sets k.calls k.at q t.0). (l.call, subst (λ n. slice_get k.calls n ≡ Some l.call) (some_same (some_same (sym l.at_is ∙ h))) l.found, l.is.over))
+      (λ (l : ListsCall contents k.history handed k.calls k.at q t.0). (l.call, subst (λ n. slice_get k.calls n ≡ Some l.call) (some_same (some_same (sym l.at_is ∙ h))) l.found, l.is.over))
       (λ (l : ListsUpkeep (g.backing w.store).durable k.at q t.0). absurd (let e = sym l.at_is ∙ h in cc))
       (k.listed q t.0 t.1)
 
@@ -111,7 +112,7 @@ module _ {S : Type 0} (g : Ghosts S) (contents : Entry → Bool) (acts : List Ac
   }
 
   -- the session's running call goes on, or ends
-  pub touches_running : OneCallRuns g → (k : Kept) (s : ℕ) (p : PendingCall) (y : RunsCall w.sets (length old) k.calls s p) (more : List Action) (after : Call) → AllBy y.number more
+  pub touches_running : OneCallRuns g → (k : Kept) (s : ℕ) (p : PendingCall) (y : RunsCall handed (length old) k.calls s p) (more : List Action) (after : Call) → AllBy y.number more
       → Fits g contents (snapshot_of v (k.history ++ more) (slice_set k.calls y.number after))
       → (KeepsHistory g contents (snapshot_of w k.history k.calls) → KeepsHistory g contents (snapshot_of v (k.history ++ more) (slice_set k.calls y.number after)))
       → (g.backing w.store).durable ≤ (g.backing v.store).durable → Touches k s y.number more (slice_set k.calls y.number after)
@@ -137,17 +138,19 @@ module _ {S : Type 0} (g : Ghosts S) (contents : Entry → Bool) (acts : List Ac
     abbrev then_pending : List (Option PendingCall)
     then_pending = slice_set pending s o
 
-    lists_kept : (ats : List (Option ℕ)) (q : ℕ) (r : CompletedCall) → r.to ≤ length k.history → Lists contents k.history (g.backing w.store).durable w.sets k.calls k.at q r
-        → Lists contents (k.history ++ more) (g.backing v.store).durable v.sets calls (k.at ++ ats) q r
+    lists_kept : (ats : List (Option ℕ)) (q : ℕ) (r : CompletedCall) → r.to ≤ length k.history → Lists contents k.history (g.backing w.store).durable handed k.calls k.at q r
+        → Lists contents (k.history ++ more) (g.backing v.store).durable handed calls (k.at ++ ats) q r
     lists_kept ats q r to l = ⊎_elim
-        (λ (x : ListsCall contents k.history w.sets k.calls k.at q r). inl (record {
+        (λ (x : ListsCall contents k.history handed k.calls k.at q r). inl (record {
           number = x.number;
           request = x.request;
+          set = x.set;
           call = x.call;
           at_is = get_front k.at ats q (Some x.number) x.at_is;
           asks = x.asks;
           found = t.rest x.number x.call (λ e. t.free q (x.at_is ∙ ap (λ n. Some (Some n)) e)) x.found;
-          is = rw sets_same x.is;
+          removes = x.removes;
+          is = x.is;
           most = x.most;
           left = λ e. left_later contents k.history more r.asked r x.call.added to (x.left e);
         }))
@@ -189,15 +192,17 @@ module _ {S : Type 0} (g : Ghosts S) (contents : Entry → Bool) (acts : List Ac
         (λ (x : (m : ℕ) × (slice_get more m ≡ Some a)). (let e = t.own x.0 a x.1 in (omega (arith, e, t.above), omega (arith, e, t.within x.0 a x.1))))
         (get_append k.history more n a h)
 
-    runs_kept : (u : ℕ) (q : PendingCall) → u ≢ s → RunsCall w.sets (length old) k.calls u q → RunsCall v.sets (length old) calls u q
+    runs_kept : (u : ℕ) (q : PendingCall) → u ≢ s → RunsCall handed (length old) k.calls u q → RunsCall handed (length old) calls u q
     runs_kept u q n y = record {
       number = y.number;
       request = y.request;
+      set = y.set;
       call = y.call;
       asks = y.asks;
       own = y.own;
       is = record { found = t.rest y.number y.call (t.apart u q n y) y.is.found; session_is = y.is.session_is; running = y.is.running };
-      ask_is = rw sets_same y.ask_is;
+      removes = y.removes;
+      ask_is = y.ask_is;
       began_is = y.began_is;
       given_is = y.given_is;
       most = y.most;
@@ -205,8 +210,8 @@ module _ {S : Type 0} (g : Ghosts S) (contents : Entry → Bool) (acts : List Ac
 
     -- no call is over that was not before
     pub keeps_on : (i < length calls → IsOurs calls k.at then_pending i)
-        → ((q : PendingCall) → o ≡ Some q → RunsCall v.sets (length old) calls s q × IsSince records (length (k.history ++ more)) s q.seen q.from)
-        → KeepsFitting g contents acts old KeptThen v start then_pending records
+        → ((q : PendingCall) → o ≡ Some q → RunsCall handed (length old) calls s q × IsSince records (length (k.history ++ more)) s q.seen q.from)
+        → KeepsFitting g handed contents acts old KeptThen v start then_pending records
     keeps_on mine own =
         let long = length-append k.history more in
         record {
@@ -221,11 +226,11 @@ module _ {S : Type 0} (g : Ghosts S) (contents : Entry → Bool) (acts : List Ac
           ours = λ j a b. subst (λ l. IsOurs calls l then_pending j) (append-nil k.at) (ours_kept [] (λ l. subst (λ x. IsOurs calls x then_pending i) (sym (append-nil k.at)) (mine l)) j a b);
           owned = owned_kept;
           long = k.long;
-          listed = λ q r h. subst (λ l. Lists contents (k.history ++ more) (g.backing v.store).durable v.sets calls l q r) (append-nil k.at)
+          listed = λ q r h. subst (λ l. Lists contents (k.history ++ more) (g.backing v.store).durable handed calls l q r) (append-nil k.at)
               (lists_kept [] q r (k.in_time q r h).to_is (k.listed q r h));
           once = k.once;
           runs = λ u q h. ⊎_elim
-              (λ (x : (u ≡ s) × (o ≡ Some q)). subst (λ n. RunsCall v.sets (length old) calls n q) (sym x.0) (own q x.1).0)
+              (λ (x : (u ≡ s) × (o ≡ Some q)). subst (λ n. RunsCall handed (length old) calls n q) (sym x.0) (own q x.1).0)
               (λ (x : (u ≢ s) × (slice_get pending u ≡ Some (Some q))). runs_kept u q x.0 (k.runs u q x.1))
               (set_cases pending s u o (Some q) h);
           since = λ u q h. ⊎_elim
@@ -239,10 +244,10 @@ module _ {S : Type 0} (g : Ghosts S) (contents : Entry → Bool) (acts : List Ac
     -- one call more is over, and the session runs nothing then
     pub keeps_with : (r : CompletedCall) → r.session ≡ s → o ≡ None → (entry : Option ℕ) → ((j : ℕ) → entry ≡ Some j → j ≡ i)
         → (i < length calls → IsOurs calls (k.at ++ entry ∷ []) then_pending i)
-        → Lists contents (k.history ++ more) (g.backing v.store).durable v.sets calls (k.at ++ entry ∷ []) (length records) r
+        → Lists contents (k.history ++ more) (g.backing v.store).durable handed calls (k.at ++ entry ∷ []) (length records) r
         → IsInTime (length (k.history ++ more)) (length records) r
         → CallFollows records s r.seen r.from
-        → KeepsFitting g contents acts old KeptThen v start then_pending (records ++ r ∷ [])
+        → KeepsFitting g handed contents acts old KeptThen v start then_pending (records ++ r ∷ [])
     keeps_with r worker none entry fresh mine listed in_time follows =
         let long = length-append k.history more in
         let one = entry ∷ [] in
@@ -262,7 +267,7 @@ module _ {S : Type 0} (g : Ghosts S) (contents : Entry → Bool) (acts : List Ac
           listed = λ q u h. ⊎_elim
               (λ (x : (q < length records) × (slice_get records q ≡ Some u)). lists_kept one q u (k.in_time q u x.1).to_is (k.listed q u x.1))
               (λ (x : (q ≡ length records) × (r ≡ u)).
-              subst (λ (y : ℕ × CompletedCall). Lists contents (k.history ++ more) (g.backing v.store).durable v.sets calls (k.at ++ one) y.0 y.1) (λ z. (sym x.0 z, x.1 z)) listed)
+              subst (λ (y : ℕ × CompletedCall). Lists contents (k.history ++ more) (g.backing v.store).durable handed calls (k.at ++ one) y.0 y.1) (λ z. (sym x.0 z, x.1 z)) listed)
               (get_snoc records r u q h);
           once = λ p q j x y. ⊎_elim
               (λ (a : (p < length k.at) × (slice_get k.at p ≡ Some (Some j))). ⊎_elim
@@ -308,11 +313,11 @@ module _ {S : Type 0} (g : Ghosts S) (contents : Entry → Bool) (acts : List Ac
 
 -- it begins with the world as it was handed in
 pub keeps_first : {S : Type 0} (g : Ghosts S) (contents : Entry → Bool) (acts : List Action) (old : List Call) (KeptThen : Type 0)
-    (w : StoreAndSlots S) (start : ℕ) (pending : List (Option PendingCall))
+    (w : StoreAndSlots S) (handed : Handed) (start : ℕ) (pending : List (Option PendingCall))
     → Fits g contents (snapshot_of w acts old) → (KeptThen → KeepsHistory g contents (snapshot_of w acts old)) → start ≡ length acts
     → ((s : ℕ) (p : PendingCall) → slice_get pending s ≡ Some (Some p) → ⊥)
-    → KeepsFitting g contents acts old KeptThen w start pending []
-keeps_first g contents acts old KeptThen w start pending fit safe is none = record {
+    → KeepsFitting g handed contents acts old KeptThen w start pending []
+keeps_first g contents acts old KeptThen w handed start pending fit safe is none = record {
   history = acts;
   calls = old;
   at = [];

@@ -1,4 +1,6 @@
 pub mod Imports
+pub mod Words
+mod Rows
 pub mod Noting
 pub mod Handing
 pub mod Sharing
@@ -8,6 +10,7 @@ pub mod Happening
 pub mod Stepping
 pub mod Asking
 pub mod Owning
+pub mod Putting
 pub mod Acting
 pub mod Transiting
 pub mod Beginning

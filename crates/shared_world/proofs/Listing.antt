@@ -1,5 +1,6 @@
 -- What the keepers' views have of the records and of the jobs that run.
 use Rattle.std.proofs.Common.{◌≡◌, ◌≢◌, ℕ, zero, suc, ◌<◌, List, [], ◌∷◌, ◌++◌, length, Option, Some, None, slice_get, slice_set, vec_capacity, refl, sym, ap, ◌∙◌, subst, ⊎_elim, arith}
+use Rattle.session_calls.specs.TheoremCalls.{DeadSets}
 use Rattle.shared_world.proofs.Imports.{Ended, SeatView, keeper_of, Job, PendingCall, Record, Pending, AreBooked, IsRoomOf, ScanIsFull, note_of, notes_of, job_of, jobs_of, completed_call, completed_calls, pending_call_of, pending_calls, get_snoc, set_cases}
 use Rattle.shared_world.proofs.Noting.{some_same}
 
@@ -38,25 +39,25 @@ pub seat_runs : (v : SeatView) (s : ℕ) (log : List (ℕ × ℕ)) (pending : Li
     → slice_get v.running s ≡ Some o → o ≡ t → slice_get (jobs_of pending) s ≡ Some t
 seat_runs v s log pending o t knows at is = ap (λ (x : SeatView). slice_get x.running s) (sym knows) ∙ at ∙ ap Some is
 
-pub pending_calls_set : (pending : List (Option Pending)) (s : ℕ) (o : Option Pending) → pending_calls (slice_set pending s o) ≡ slice_set (pending_calls pending) s (pending_call_of o)
-pending_calls_set [] s o = refl
-pending_calls_set (p ∷ ps) zero o = refl
-pending_calls_set (p ∷ ps) (suc s) o = ap (λ l. pending_call_of p ∷ l) (pending_calls_set ps s o)
+pub pending_calls_set : (sets : DeadSets) (pending : List (Option Pending)) (s : ℕ) (o : Option Pending) → pending_calls sets (slice_set pending s o) ≡ slice_set (pending_calls sets pending) s (pending_call_of sets o)
+pending_calls_set sets [] s o = refl
+pending_calls_set sets (p ∷ ps) zero o = refl
+pending_calls_set sets (p ∷ ps) (suc s) o = ap (λ l. pending_call_of sets p ∷ l) (pending_calls_set sets ps s o)
 
-pub completed_calls_snoc : (records : List Record) (r : Record) → completed_calls (records ++ r ∷ []) ≡ completed_calls records ++ completed_call r ∷ []
-completed_calls_snoc [] r = refl
-completed_calls_snoc (x ∷ xs) r = ap (λ l. completed_call x ∷ l) (completed_calls_snoc xs r)
+pub completed_calls_snoc : (sets : DeadSets) (records : List Record) (r : Record) → completed_calls sets (records ++ r ∷ []) ≡ completed_calls sets records ++ completed_call sets r ∷ []
+completed_calls_snoc sets [] r = refl
+completed_calls_snoc sets (x ∷ xs) r = ap (λ l. completed_call sets x ∷ l) (completed_calls_snoc sets xs r)
 
-pub length_completed : (records : List Record) → length (completed_calls records) ≡ length records
-length_completed [] = refl
-length_completed (x ∷ xs) = ap suc (length_completed xs)
+pub length_completed : (sets : DeadSets) (records : List Record) → length (completed_calls sets records) ≡ length records
+length_completed sets [] = refl
+length_completed sets (x ∷ xs) = ap suc (length_completed sets xs)
 
 -- a call that runs is that of a job that runs
-pub call_there : (pending : List (Option Pending)) (s : ℕ) (p : PendingCall) → slice_get (pending_calls pending) s ≡ Some (Some p) → (q : Pending) × (slice_get pending s ≡ Some (Some q))
-call_there [] s p e = absurd cc
-call_there (None ∷ ps) zero p e = absurd cc
-call_there (Some q ∷ ps) zero p e = (q, refl)
-call_there (q ∷ ps) (suc s) p e = call_there ps s p e
+pub call_there : (sets : DeadSets) (pending : List (Option Pending)) (s : ℕ) (p : PendingCall) → slice_get (pending_calls sets pending) s ≡ Some (Some p) → (q : Pending) × (slice_get pending s ≡ Some (Some q))
+call_there sets [] s p e = absurd cc
+call_there sets (None ∷ ps) zero p e = absurd cc
+call_there sets (Some q ∷ ps) zero p e = (q, refl)
+call_there sets (q ∷ ps) (suc s) p e = call_there sets ps s p e
 
 -- one job more runs, or goes on
 pub booked_runs : (jobs : List Job) (pending : List (Option Pending)) (records : List Record) (s : ℕ) (p : Pending) → slice_get jobs p.job ≡ Some p.asked → IsRoomOf p.asked (vec_capacity p.given)

@@ -1,5 +1,6 @@
 -- Which sessions run a call, and lists that are written.
 use Rattle.std.proofs.Common.{◌≡◌, ◌≢◌, ℕ, zero, suc, ◌<◌, ◌&&◌, not, Bool, true, false, unwrap_or, List, [], ◌∷◌, length, Option, Some, None, slice_get, slice_set, refl, sym, ap, ◌∙◌, subst, ⊎_elim, arith, length-set}
+use Rattle.std.proofs.lemmas.Bool.{false_from_ne_true, true_from_ne_false}
 use mathlib.Core.Logic.{∥∥₁_elim}
 use Rattle.shared_world.proofs.Imports.{is_last, RunsUntilLast, is_busy, has_call, slot_has_call, slot_of, Answer, OthersStay, Begun, Op, is_begun, PendingCall}
 use Rattle.shared_world.proofs.Imports.{MatchesPending, nat_cases, get_within, set_cases}
@@ -47,18 +48,10 @@ pub others_run_on : (old new : List (Option Op)) (s : ℕ) → OthersStay s old 
 others_run_on old new s others t n = ap slot_has_call (others t n)
 
 pub runs_there : (slots : List (Option Op)) (pending : List (Option PendingCall)) (s : ℕ) (p : PendingCall) → ∥ MatchesPending slots pending ∥₁ → slice_get pending s ≡ Some (Some p) → has_call slots s ≡ true
-runs_there slots pending s p m e = yes (has_call slots s) (λ no. ∥∥₁_elim m (λ x y. absurd x) (λ k. clash (has_call slots s) (k.runs s p e) no))
-  where
-    yes : (b : Bool) → (b ≡ false → ⊥) → b ≡ true
-    yes true f = refl
-    yes false f = absurd (f refl)
+runs_there slots pending s p m e = true_from_ne_false (has_call slots s) (λ no. ∥∥₁_elim m (λ x y. absurd x) (λ k. clash (has_call slots s) (k.runs s p e) no))
 
 pub rests_there : (slots : List (Option Op)) (pending : List (Option PendingCall)) (s : ℕ) → ∥ MatchesPending slots pending ∥₁ → slice_get pending s ≡ Some None → has_call slots s ≡ false
-rests_there slots pending s m e = no (has_call slots s) (λ yes. ∥∥₁_elim m (λ x y. absurd x) (λ k. clash (has_call slots s) yes (k.rests s e)))
-  where
-    no : (b : Bool) → (b ≡ true → ⊥) → b ≡ false
-    no true f = absurd (f refl)
-    no false f = refl
+rests_there slots pending s m e = false_from_ne_true (has_call slots s) (λ yes. ∥∥₁_elim m (λ x y. absurd x) (λ k. clash (has_call slots s) yes (k.rests s e)))
 
 pub matches_runs : (old new : List (Option Op)) (pending : List (Option PendingCall)) (s : ℕ) (p : PendingCall) → s < length pending → has_call new s ≡ true
     → OthersRunOn old new s → MatchesPending old pending → MatchesPending new (slice_set pending s (Some p))

@@ -1,6 +1,7 @@
 -- What lies under the lock of a run of jobs: what a worker's seat tells of it, and what is so of it after an
 -- event of the worker's session.
 use Rattle.std.proofs.Common.{◌≡◌, ◌≢◌, ◌<◌, ◌≤◌, ◌+◌, ◌++◌, ◌∷◌, [], ℕ, Bool, true, false, unwrap_or, List, length, Option, Some, None, slice_get, slice_set, get_or, vec_len, vec_capacity, refl, sym, ap, ◌∙◌, subst, inr, ⊎_elim, arith, length-set}
+use Rattle.session_calls.specs.TheoremCalls.{DeadSets}
 use Rattle.shared_world.proofs.Imports.{slice_get_read, SetGhosts, Ghosts, Answer, Ended, keeper_of, known_by, LedgerGhosts, RunGhosts, SeatView, JobGhosts, OriginGhosts, OriginOnGhosts, GroupGhosts, nat_cases, get_within, set_here, set_else}
 use Rattle.shared_world.proofs.Imports.{Job, Record, Pending, Shared, PendingCall, SessionSeat, SessionView, view_of, completed_of, completed_calls, pending_call, pending_call_of, pending_calls}
 use Rattle.shared_world.proofs.Imports.{AreBooked, AreSeated, HoldsSeat, IsSeatAt, IsBelowRoom, IsFullScan, IsRoomOf, MayBeLeft, Scan, ScanIsFull, HasRoomLeft, LeavesCall, RunsItsCall, call_in, empty_call, record_of, notes_of, jobs_of, TurnMeans, HasNotedAt}
@@ -8,9 +9,9 @@ use Rattle.shared_world.proofs.Noting.{some_same, set_same, set_twice}
 use Rattle.shared_world.proofs.Listing.{none_there, some_there, within, jobs_of_set, notes_of_snoc, length_notes, seat_runs, pending_calls_set, completed_calls_snoc, booked_runs, booked_done}
 
 -- a place that has the seat of a session has a seat
-holds : {J : Type 0} {group : GroupGhosts J} (s : ℕ) (o : Option Pending) (x : Option (Option (SessionSeat J group))) → IsSeatAt s (Some o) x → HoldsSeat x
-holds s o (Some (Some v)) h = tt
-holds s o x h = absurd h
+holds : {J : Type 0} {group : GroupGhosts J} (sets : DeadSets) (s : ℕ) (o : Option Pending) (x : Option (Option (SessionSeat J group))) → IsSeatAt sets s (Some o) x → HoldsSeat x
+holds sets s o (Some (Some v)) h = tt
+holds sets s o x h = absurd h
 
 module _ {S T J : Type 0} {g : Ghosts S} {rows : SetGhosts T} {j : JobGhosts J} {run : RunGhosts J} {ledger : LedgerGhosts J} {past : OriginOnGhosts J S} {origin : OriginGhosts J} {group : GroupGhosts J} (self : Shared S T J g rows j run ledger past origin group) where
   -- what the keeper of the sessions' seats knows
@@ -20,10 +21,11 @@ module _ {S T J : Type 0} {g : Ghosts S} {rows : SetGhosts T} {j : JobGhosts J} 
   -- all that is to be so as the lock is released
   abbrev pub IsServed : List (Option Pending) → List Record → List (Option (SessionSeat J group)) → SessionView → ℕ → ℕ → ℕ → SeatView → Type 0
   IsServed pending records seats k count capacity total view = record {
-    told : k.log ≡ completed_calls records;
-    runs : k.pending ≡ pending_calls pending;
+    stays : origin.handed.spare ≡ None;
+    told : k.log ≡ completed_calls origin.handed.sets records;
+    runs : k.pending ≡ pending_calls origin.handed.sets pending;
     booked : AreBooked j.jobs pending records;
-    seated : AreSeated j.workers pending seats;
+    seated : AreSeated origin.handed.sets j.workers pending seats;
     workers : vec_len self.pending ≡ j.workers;
     enough : length j.jobs ≤ capacity;
     counted : total ≡ count;
@@ -34,6 +36,7 @@ module _ {S T J : Type 0} {g : Ghosts S} {rows : SetGhosts T} {j : JobGhosts J} 
   pub served_same : {pending : List (Option Pending)} {view : SeatView} → pending ≡ self.pending.items → view ≡ known_by self.desk.keeper
       → IsServed pending self.history.items self.seats.items keeper_in (vec_len self.history) (vec_capacity self.history) self.book.total view
   served_same {pending} {view} same knows = subst (λ (l : List (Option Pending)). IsServed l self.history.items self.seats.items keeper_in (vec_len self.history) (vec_capacity self.history) self.book.total view) (sym same) (record {
+    stays = self.stays;
     told = self.told;
     runs = self.runs;
     booked = self.booked;
@@ -105,17 +108,17 @@ module _ {S T J : Type 0} {g : Ghosts S} {rows : SetGhosts T} {j : JobGhosts J} 
       within_workers : w < j.workers
       within_workers = (let inside = get_within self.pending.items w o at in omega (arith, inside, self.pending.ok.0, self.workers))
 
-      seat_is : (x : Option (Option (SessionSeat J group))) → slice_get self.seats.items w ≡ x → IsSeatAt w (Some o) x
-      seat_is x e = subst (λ (y : Option (Option Pending) × Option (Option (SessionSeat J group))). IsSeatAt w y.0 y.1) (λ i. (at i, e i)) (self.seated w within_workers)
+      seat_is : (x : Option (Option (SessionSeat J group))) → slice_get self.seats.items w ≡ x → IsSeatAt origin.handed.sets w (Some o) x
+      seat_is x e = subst (λ (y : Option (Option Pending) × Option (Option (SessionSeat J group))). IsSeatAt origin.handed.sets w y.0 y.1) (λ i. (at i, e i)) (self.seated w within_workers)
 
       pub seat_there : HoldsSeat (slice_get self.seats.items w)
-      seat_there = holds w o (slice_get self.seats.items w) (seat_is _ refl)
+      seat_there = holds origin.handed.sets w o (slice_get self.seats.items w) (seat_is _ refl)
 
       module _ (seat : SessionSeat J group) (there : slice_get self.seats.items w ≡ Some (Some seat)) where
         pub session_is : seat.session ≡ w
         session_is = (seat_is (Some (Some seat)) there).0
 
-        pub call_is : (view_of seat.pass).call ≡ pending_call_of o
+        pub call_is : (view_of seat.pass).call ≡ pending_call_of origin.handed.sets o
         call_is = (seat_is (Some (Some seat)) there).1
 
         -- an event of its call is one of the worker's session
@@ -130,31 +133,32 @@ module _ {S T J : Type 0} {g : Ghosts S} {rows : SetGhosts T} {j : JobGhosts J} 
 
         -- all have their seats again, once it is back with what it runs then
         seated_again : (now : Option Pending) (back : SessionSeat J group) {seats seats' : List (Option (SessionSeat J group))} → seats ≡ slice_set self.seats.items w None → seats' ≡ slice_set seats w (Some back)
-            → back.session ≡ seat.session → (view_of back.pass).call ≡ pending_call_of now → AreSeated j.workers (slice_set self.pending.items w now) seats'
-        seated_again now back {seats = seats} {seats' = seats'} taken put session call t l = subst (λ (x : List (Option (SessionSeat J group))). IsSeatAt t (slice_get (slice_set self.pending.items w now) t) (slice_get x t)) (sym once)
+            → back.session ≡ seat.session → (view_of back.pass).call ≡ pending_call_of origin.handed.sets now → AreSeated origin.handed.sets j.workers (slice_set self.pending.items w now) seats'
+        seated_again now back {seats = seats} {seats' = seats'} taken put session call t l = subst (λ (x : List (Option (SessionSeat J group))). IsSeatAt origin.handed.sets t (slice_get (slice_set self.pending.items w now) t) (slice_get x t)) (sym once)
             (⊎_elim here else (nat_cases t w))
           where
             once : seats' ≡ slice_set self.seats.items w (Some back)
             once = put ∙ ap (λ (x : List (Option (SessionSeat J group))). slice_set x w (Some back)) taken ∙ set_twice self.seats.items w None (Some back)
 
-            here : t ≡ w → IsSeatAt t (slice_get (slice_set self.pending.items w now) t) (slice_get (slice_set self.seats.items w (Some back)) t)
-            here e = subst (λ (x : ℕ × Option (Option Pending) × Option (Option (SessionSeat J group))). IsSeatAt x.0 x.1 x.2)
+            here : t ≡ w → IsSeatAt origin.handed.sets t (slice_get (slice_set self.pending.items w now) t) (slice_get (slice_set self.seats.items w (Some back)) t)
+            here e = subst (λ (x : ℕ × Option (Option Pending) × Option (Option (SessionSeat J group))). IsSeatAt origin.handed.sets x.0 x.1 x.2)
                 (λ i. (sym e i, sym (ap (slice_get (slice_set self.pending.items w now)) e ∙ set_here self.pending.items w o now at) i, sym (ap (slice_get (slice_set self.seats.items w (Some back))) e ∙ set_here self.seats.items w (Some seat) (Some back) there) i))
                 (session ∙ session_is, call)
 
-            else : t ≢ w → IsSeatAt t (slice_get (slice_set self.pending.items w now) t) (slice_get (slice_set self.seats.items w (Some back)) t)
-            else n = subst (λ (x : Option (Option Pending) × Option (Option (SessionSeat J group))). IsSeatAt t x.0 x.1)
+            else : t ≢ w → IsSeatAt origin.handed.sets t (slice_get (slice_set self.pending.items w now) t) (slice_get (slice_set self.seats.items w (Some back)) t)
+            else n = subst (λ (x : Option (Option Pending) × Option (Option (SessionSeat J group))). IsSeatAt origin.handed.sets t x.0 x.1)
                 (λ i. (sym (set_else self.pending.items w t now n) i, sym (set_else self.seats.items w t (Some back) n) i)) (self.seated t l)
 
         module _ (back : SessionSeat J group) {seats seats' : List (Option (SessionSeat J group))} (taken : seats ≡ slice_set self.seats.items w None) (put : seats' ≡ slice_set seats w (Some back)) (same : back.session ≡ seat.session)
             {k : SessionView} {p : PendingCall} {answer : Answer} {to : ℕ} where
           -- it is so if the job runs on
-          pub served_on : (q : Pending) → LeavesCall w false p answer to keeper_in k (view_of seat.pass) (view_of back.pass) → p ≡ pending_call q → slice_get j.jobs q.job ≡ Some q.asked → IsRoomOf q.asked (vec_capacity q.given)
+          pub served_on : (q : Pending) → LeavesCall w false p answer to keeper_in k (view_of seat.pass) (view_of back.pass) → p ≡ pending_call origin.handed.sets q → slice_get j.jobs q.job ≡ Some q.asked → IsRoomOf q.asked (vec_capacity q.given)
               → {pending : List (Option Pending)} {view : SeatView} → pending ≡ slice_set self.pending.items w (Some q) → view ≡ keeper_of (notes_of self.history.items) (slice_set (jobs_of self.pending.items) w (Some q.job))
               → IsServed pending self.history.items seats' k (vec_len self.history) (vec_capacity self.history) self.book.total view
           served_on q leaves is job room {pending} {view} pending_is knows = subst (λ (l : List (Option Pending)). IsServed l self.history.items seats' k (vec_len self.history) (vec_capacity self.history) self.book.total view) (sym pending_is) (record {
+            stays = self.stays;
             told = leaves.log ∙ self.told;
-            runs = leaves.pending ∙ (λ i. slice_set (self.runs i) w (Some (is i))) ∙ sym (pending_calls_set self.pending.items w (Some q));
+            runs = leaves.pending ∙ (λ i. slice_set (self.runs i) w (Some (is i))) ∙ sym (pending_calls_set origin.handed.sets self.pending.items w (Some q));
             booked = booked_runs j.jobs self.pending.items self.history.items w q job room self.booked;
             seated = seated_again (Some q) back taken put same (leaves.call ∙ ap Some is);
             workers = self.workers;
@@ -164,7 +168,7 @@ module _ {S T J : Type 0} {g : Ghosts S} {rows : SetGhosts T} {j : JobGhosts J} 
           })
 
           -- ... or is done, and has its record
-          pub served_done : (q : Pending) → LeavesCall w true p answer to keeper_in k (view_of seat.pass) (view_of back.pass) → p ≡ pending_call q → slice_get j.jobs q.job ≡ Some q.asked → (answer ≡ Ended → ScanIsFull q.asked q.given.items)
+          pub served_done : (q : Pending) → LeavesCall w true p answer to keeper_in k (view_of seat.pass) (view_of back.pass) → p ≡ pending_call origin.handed.sets q → slice_get j.jobs q.job ≡ Some q.asked → (answer ≡ Ended → ScanIsFull q.asked q.given.items)
               → {x : Record} {pending : List (Option Pending)} {records : List Record} {count capacity total worker : ℕ} {mid view : SeatView}
               → pending ≡ slice_set self.pending.items w None → records ≡ self.history.items ++ x ∷ [] → x ≡ record_of w q answer to → count ≡ vec_len self.history + 1 → capacity ≡ vec_capacity self.history → total ≡ self.book.total + 1
               → mid ≡ known_by self.desk.keeper → worker ≡ w → view ≡ keeper_of (mid.log ++ (worker, q.job) ∷ []) (slice_set mid.running worker None)
@@ -174,8 +178,9 @@ module _ {S T J : Type 0} {g : Ghosts S} {rows : SetGhosts T} {j : JobGhosts J} 
               let all = items ∙ ap (λ (r : Record). self.history.items ++ r ∷ []) x_is in
               let v = same_desk ∙ self.knows in
               subst (λ (h : List (Option Pending) × List Record). IsServed h.0 h.1 seats' k count capacity total view) (λ i. (sym pending_is i, sym all i)) (record {
-                told = leaves.log ∙ (λ i. self.told i ++ completed_of w (is i) answer to ∷ []) ∙ sym (completed_calls_snoc self.history.items r);
-                runs = leaves.pending ∙ ap (λ (l : List (Option PendingCall)). slice_set l w None) self.runs ∙ sym (pending_calls_set self.pending.items w None);
+                stays = self.stays;
+                told = leaves.log ∙ (λ i. self.told i ++ completed_of w (is i) answer to ∷ []) ∙ sym (completed_calls_snoc origin.handed.sets self.history.items r);
+                runs = leaves.pending ∙ ap (λ (l : List (Option PendingCall)). slice_set l w None) self.runs ∙ sym (pending_calls_set origin.handed.sets self.pending.items w None);
                 booked = booked_done j.jobs self.pending.items self.history.items w r job full self.booked;
                 seated = seated_again None back taken put same leaves.call;
                 workers = self.workers;
@@ -201,10 +206,10 @@ module _ {S T J : Type 0} {g : Ghosts S} {rows : SetGhosts T} {j : JobGhosts J} 
 
       module _ (seat : SessionSeat J group) (there : slice_get self.seats.items w ≡ Some (Some seat)) where
         -- the session's seat tells its call
-        runs_is : (view_of seat.pass).call ≡ Some (pending_call q)
+        runs_is : (view_of seat.pass).call ≡ Some (pending_call origin.handed.sets q)
         runs_is = call_is (Some q) found seat there
 
-        pub call_in_is : call_in (view_of seat.pass) ≡ pending_call q
+        pub call_in_is : call_in (view_of seat.pass) ≡ pending_call origin.handed.sets q
         call_in_is = ap (λ (o : Option PendingCall). unwrap_or o empty_call) runs_is
 
         pub runs_call : RunsItsCall (view_of seat.pass)

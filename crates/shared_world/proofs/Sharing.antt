@@ -1,15 +1,32 @@
 -- What lies under the lock: what a session's seat tells of it, and what is so of it after an event.
-use Rattle.std.proofs.Common.{◌≡◌, ◌≤◌, ◌++◌, ◌∷◌, [], ℕ, true, false, List, length, Option, Some, None, slice_get, slice_set, sym, ap, ◌∙◌, subst, arith}
+use mathlib.Core.Logic.{∥∥₁_elim}
+use mathlib.Core.Bool.{Bool-set}
+use Rattle.std.proofs.Common.{◌≡◌, ◌≤◌, ◌++◌, ◌∷◌, [], ℕ, Bool, true, false, List, length, Option, Some, None, unwrap_or, slice_get, slice_set, refl, sym, ap, ◌∙◌, subst, arith}
 use Rattle.session_seats.specs.Calls.{begun_by, completed_by, completed_of, given_by, given_more}
 use Rattle.session_seats.specs.Seats.{keeper_with, view_of}
 use Rattle.session_seats.specs.declared.call.CompletedCall.{CompletedCall}
 use Rattle.session_seats.specs.declared.call.Notice.{Notice}
+use Rattle.session_seats.specs.declared.job.Job.TheVariants.{Bulk}
 use Rattle.session_seats.specs.declared.call.PendingCall.{PendingCall}
 use Rattle.session_seats.specs.declared.seating.SessionView.{SessionView}
+use Rattle.index_model.specs.Row.{Row}
+use Rattle.session_calls.specs.TheoremCalls.{DeadSets}
+use Rattle.shared_world.specs.Handed.{SetsGo}
 use Rattle.shared_world.specs.Leaving.{LeavesCall}
-use Rattle.shared_world.proofs.Imports.{∥∥₁_map, Answer, SetGhosts, Ghosts, has_call, StoreAndSlots, GroupGhosts, OriginGhosts, OriginOnGhosts, inside, World, Live, HasActed, ComesOf, StillFollows, KeepsAll, MatchesPending}
+use Rattle.shared_world.specs.Rows.{set_asked}
+use Rattle.shared_world.proofs.Imports.{Job, ∥∥₁_map, Answer, SetGhosts, Ghosts, has_call, StoreAndSlots, GroupGhosts, OriginGhosts, OriginOnGhosts, inside, World, Live, HasActed, ComesOf, StillFollows, KeepsAll, MatchesPending}
 use Rattle.shared_world.proofs.Handing.{IsMadeByEvent, comes_on, follows_on}
 use Rattle.shared_world.proofs.Noting.{runs_there, set_same, set_twice}
+
+-- a job that names no set at the spare place names the same set as before
+asked_beside : (spare : Option ℕ) (old new : DeadSets) (job : Job) → SetsGo spare old new → ((place : ℕ) → spare ≡ Some place → job ≡ Bulk place → ⊥) → set_asked new job ≡ set_asked old job
+asked_beside None old new job same other = ap (λ (l : DeadSets). set_asked l job) same
+asked_beside (Some place) old new (Bulk at) beside other = ap (λ (o : Option (Row → Bool)). unwrap_or o (λ row. false)) (beside.1 at (λ e. other place refl (ap Bulk e)))
+asked_beside (Some place) old new job beside other = refl
+
+-- two sets are the same in one way at most
+same_set : (f h : Row → Bool) (p q : f ≡ h) → p ≡ q
+same_set f h p q i j row = Bool-set (f row) (h row) (λ k. p k row) (λ k. q k row) i j
 
 module _ {S T J : Type 0} {g : Ghosts S} {rows : SetGhosts T} {past : OriginOnGhosts J S} {j : OriginGhosts J} {group : GroupGhosts J} (self : Live S T J g rows past j group) where
   -- the calls that run, and those that are over
@@ -21,11 +38,20 @@ module _ {S T J : Type 0} {g : Ghosts S} {rows : SetGhosts T} {past : OriginOnGh
 
   -- what is kept of what fitted the world as it was handed in
   abbrev pub KeepsWith : StoreAndSlots S → List (Option PendingCall) → List CompletedCall → Type 0
-  KeepsWith here pending log = KeepsAll g j.stood j.kept_then here self.start pending log
+  KeepsWith here pending log = KeepsAll g j.handed j.stood j.kept_then here self.start pending log
 
   -- ... and what was done for its calls
   abbrev ActsWith : StoreAndSlots S → List (Option PendingCall) → List CompletedCall → Type 0
   ActsWith here pending log = HasActed g j.handed here pending log
+
+  -- unless its place is spare, a job names the set that it named as the world was handed in
+  pub asked_still : (job : Job) → ((place : ℕ) → j.handed.spare ≡ Some place → job ≡ Bulk place → ⊥) → set_asked (inside rows self.world).sets job ≡ set_asked j.handed.sets job
+  asked_still job other = ∥∥₁_elim self.comes (same_set (set_asked (inside rows self.world).sets job) (set_asked j.handed.sets job))
+      (λ c. asked_beside j.handed.spare j.handed.sets (inside rows self.world).sets job c.sets_are other)
+
+  -- ... if none is
+  pub asked_the_same : (job : Job) → j.handed.spare ≡ None → set_asked (inside rows self.world).sets job ≡ set_asked j.handed.sets job
+  asked_the_same job none = asked_still job (λ place is at. absurd (let no : None ≡ Some place = sym none ∙ is in cc))
 
   -- this session runs this call
   pub record RunsAt (s : ℕ) (p : PendingCall) : Type 0 where
@@ -74,18 +100,18 @@ module _ {S T J : Type 0} {g : Ghosts S} {rows : SetGhosts T} {past : OriginOnGh
 -- and x. The session is s, and so is that of the seat then. Each step has a notice.
 module _ (k m : SessionView) (s t : ℕ) (keeper : m ≡ k) (same : t ≡ s) (notice : Notice) where
   -- a call has begun
-  pub begun_view : {n : SessionView} → n ≡ keeper_with m.log (slice_set m.pending t (Some (begun_by notice (length m.log)))) → n ≡ keeper_with k.log (slice_set k.pending s (Some (begun_by notice (length k.log))))
-  begun_view known = known ∙ (λ i. keeper_with (keeper i).log (slice_set (keeper i).pending (same i) (Some (begun_by notice (length (keeper i).log)))))
+  pub begun_view : {n : SessionView} (removed : List Row) → n ≡ keeper_with m.log (slice_set m.pending t (Some (begun_by removed notice (length m.log)))) → n ≡ keeper_with k.log (slice_set k.pending s (Some (begun_by removed notice (length k.log))))
+  begun_view removed known = known ∙ (λ i. keeper_with (keeper i).log (slice_set (keeper i).pending (same i) (Some (begun_by removed notice (length (keeper i).log)))))
 
   -- ... and is over at once
-  pub done_view : {n l : SessionView} {r : ℕ} {o : Option PendingCall} → n ≡ keeper_with m.log (slice_set m.pending t (Some (begun_by notice (length m.log)))) → r ≡ t → o ≡ Some (begun_by notice (length m.log))
+  pub done_view : {n l : SessionView} {r : ℕ} {o : Option PendingCall} (removed : List Row) → n ≡ keeper_with m.log (slice_set m.pending t (Some (begun_by removed notice (length m.log)))) → r ≡ t → o ≡ Some (begun_by removed notice (length m.log))
       → l ≡ keeper_with (n.log ++ completed_by r notice o ∷ []) (slice_set n.pending r None)
-      → l ≡ keeper_with (k.log ++ completed_of s (begun_by notice (length k.log)) notice.answer notice.at ∷ []) (slice_set k.pending s None)
-  done_view known again call last =
-      let b = begun_view known in
-      let o = call ∙ ap (λ (u : SessionView). Some (begun_by notice (length u.log))) keeper in
+      → l ≡ keeper_with (k.log ++ completed_of s (begun_by removed notice (length k.log)) notice.answer notice.at ∷ []) (slice_set k.pending s None)
+  done_view removed known again call last =
+      let b = begun_view removed known in
+      let o = call ∙ ap (λ (u : SessionView). Some (begun_by removed notice (length u.log))) keeper in
       last ∙ (λ i. keeper_with ((b i).log ++ completed_by ((again ∙ same) i) notice (o i) ∷ []) (slice_set (b i).pending ((again ∙ same) i) None))
-      ∙ ap (keeper_with (k.log ++ completed_of s (begun_by notice (length k.log)) notice.answer notice.at ∷ [])) (set_twice k.pending s (Some (begun_by notice (length k.log))) None)
+      ∙ ap (keeper_with (k.log ++ completed_of s (begun_by removed notice (length k.log)) notice.answer notice.at ∷ [])) (set_twice k.pending s (Some (begun_by removed notice (length k.log))) None)
 
   -- the call that runs has given one entry more
   pub given_view : {n : SessionView} {o : Option PendingCall} (p : PendingCall) → o ≡ Some p → n ≡ keeper_with m.log (slice_set m.pending t (given_by notice o)) → n ≡ keeper_with k.log (slice_set k.pending s (Some (given_more p notice.answer)))

@@ -40,10 +40,10 @@ module _ {S T J : Type 0} {g : Ghosts S} {rows : SetGhosts T} {past : OriginOnGh
       let r = goes honest contents k.history k.calls k.fit in
       let was = snapshot_of w k.history k.calls in
       let new = snapshot_of v r.then_history r.then_calls in
-      subst (λ l. KeepsFitting g contents acts calls (j.kept_then contents acts calls) v self.start l (log_in self)) (set_same (pending_in self) s (Some p) here.found)
-      (keeps_going g contents acts calls (j.kept_then contents acts calls) w v next.sets self.start (pending_in self) (log_in self) k next.later.durable s p one p here.found new
+      subst (λ l. KeepsFitting g j.handed contents acts calls (j.kept_then contents acts calls) v self.start l (log_in self)) (set_same (pending_in self) s (Some p) here.found)
+      (keeps_going g contents acts calls (j.kept_then contents acts calls) w v j.handed self.start (pending_in self) (log_in self) k next.later.durable s p one p here.found new
       (subst (λ l. MovesOnTo y.number y.call l was new) y.given_is (moves y.number y.call was new (r.tells.told y.number y.call y.is))) refl
-      r.ran.fits (λ h. (r.ran.crash h).keeps) refl refl refl y.most)
+      r.ran.fits (λ h. (r.ran.crash h).keeps) refl refl refl refl y.most)
     where
       moves : (number : ℕ) (call : Call) (x z : Moment S) → HasStepped number call answer x z ⊎ IsGivenUpFor g number call answer x z → MovesOnTo number call call.given x z
       moves number call x z (inl h) = step_on number call answer x z of on h
@@ -58,7 +58,7 @@ module _ {S T J : Type 0} {g : Ghosts S} {rows : SetGhosts T} {past : OriginOnGh
       let r = goes honest contents k.history k.calls k.fit in
       let was = snapshot_of w k.history k.calls in
       let new = snapshot_of v r.then_history r.then_calls in
-      keeps_ended g contents acts calls (j.kept_then contents acts calls) w v next.sets self.start (pending_in self) (log_in self) k next.later.durable s p one here.found answer to new
+      keeps_ended g contents acts calls (j.kept_then contents acts calls) w v j.handed self.start (pending_in self) (log_in self) k next.later.durable s p one here.found answer to new
       (ends y.number y.call was new (r.tells.told y.number y.call y.is)) refl r.ran.fits (λ h. (r.ran.crash h).keeps) (to_is ∙ r.ran.fits.explains.count) (λ e. absurd (never e))
     where
       ends : (number : ℕ) (call : Call) (x z : Moment S) → HasStepped number call answer x z ⊎ IsGivenUpFor g number call answer x z → EndsTo number call answer x z

@@ -3,7 +3,8 @@ use Rattle.std.proofs.Common.{◌≡◌, true, false, ℕ, suc, List, [], ◌∷
 use Rattle.shared_world.proofs.Imports.{append-nil, Entry, Ghosts, is_last, is_busy, ready_count, slot_add, has_call, slot_of, Answer, Gave, Ended, Checkpointed, Refused, EventAlways, EventEffect, kind_of}
 use Rattle.shared_world.proofs.Imports.{StoreAndSlots, ForEachHistory, EventFollows, Event, Step, Next, End, Checkpoint, IsMadeAsStep, HasActed, IsEventDone, MayBeLeft, Handed}
 use Rattle.shared_world.proofs.Imports.{IsWithinRoom, completed_of, given_more, Transition, gift_of, CompletedCall, PendingCall}
-use Rattle.shared_world.proofs.Acting.{moment_of, acts_on, acts_ended}
+use Rattle.shared_world.specs.Transitions.{StaysUntil}
+use Rattle.shared_world.proofs.Acting.{moment_of, acts_on, acts_ended, stays}
 use Rattle.shared_world.proofs.Noting.{clash, set_same, busy_is}
 use Rattle.shared_world.proofs.Meanings.{IsOfStep}
 
@@ -31,6 +32,9 @@ module _ {S : Type 0} (g : Ghosts S) (handed : Handed) (w v : StoreAndSlots S) (
   abbrev one_of : Event → Answer → StoreAndSlots S → StoreAndSlots S → ℕ → Transition S
   one_of event answer x y m = record { event = event; answer = answer; before = moment_of x n; after = moment_of y m }
 
+  still : (x : StoreAndSlots S) (m : ℕ) → StaysUntil handed.spare (moment_of x m) (moment_of x m)
+  still x m = stays handed.spare (moment_of x m)
+
   -- a step that isn't the last
   pub step_acts_on : (answer : Answer) → IsMadeAsStep g s 5 answer w v → IsOfStep answer → is_last answer ≡ false → has_call v.slots s ≡ true
       → HasActed g handed w pending records → HasActed g handed v pending records
@@ -41,11 +45,11 @@ module _ {S : Type 0} (g : Ghosts S) (handed : Handed) (w v : StoreAndSlots S) (
 
       by : IsMadeAsStep g s 5 answer w v → HasActed g handed v (slice_set pending s (Some p)) records
       by (inl h) = acts_on g handed w v pending records a s p p at (one_of (Step s) answer w v n ∷ [])
-          (record { goes = (refl, on); room = h.room; unrecorded = refl }, tt) (refl, h.makes, refl) refl refl refl (a.running s p at).most (nothing p.given)
+          (record { goes = (refl, on); room = h.room; unrecorded = refl }, tt) (still w n, h.makes, still v n) refl refl refl refl (a.running s p at).most (nothing p.given)
       by (inr (inl h)) =
           acts_on g handed w v pending records a s p p at (one_of Checkpoint (Checkpointed h.count) w h.between n ∷ one_of (Step s) answer h.between v n ∷ [])
           (record { goes = tt; room = h.checkpoint.short; unrecorded = refl }, (record { goes = (refl, on); room = h.step.room; unrecorded = refl }, tt))
-          (refl, h.checkpoint.makes, (refl, h.step.makes, refl)) refl refl refl (a.running s p at).most (nothing p.given)
+          (still w n, h.checkpoint.makes, (still h.between n, h.step.makes, still v n)) refl refl refl refl (a.running s p at).most (nothing p.given)
       by (inr (inr h)) = absurd (clash (has_call v.slots s) runs (sym (busy_is v.slots s) ∙ ap is_busy h.makes.always.left.over))
 
   -- one that is
@@ -64,15 +68,15 @@ module _ {S : Type 0} (g : Ghosts S) (handed : Handed) (w v : StoreAndSlots S) (
 
       by : IsMadeAsStep g s 5 answer w v → HasActed g handed v (slice_set pending s None) (records ++ completed_of s p answer to ∷ [])
       by (inl h) =
-          acts_ended g handed w v pending records a s p at answer to [] (one_of (Step s) answer w v m ∷ []) tt refl (refl, h.makes, refl)
+          acts_ended g handed w v pending records a s p at answer to [] (one_of (Step s) answer w v m ∷ []) tt refl (still w n, h.makes, still v m)
           (inl (record { event_is = refl; answer_is = refl; last = last; room = h.room; makes = record { place_is = refl; next_is = longer; to_is = sym is } }))
       by (inr (inl h)) =
           acts_ended g handed w v pending records a s p at answer to (one_of Checkpoint (Checkpointed h.count) w h.between n ∷ []) (one_of (Step s) answer h.between v m ∷ [])
-          (record { goes = tt; room = h.checkpoint.short; unrecorded = refl }, tt) refl (refl, h.checkpoint.makes, (refl, h.step.makes, refl))
+          (record { goes = tt; room = h.checkpoint.short; unrecorded = refl }, tt) refl (still w n, h.checkpoint.makes, (still h.between n, h.step.makes, still v m))
           (inl (record { event_is = refl; answer_is = refl; last = last; room = h.step.room; makes = record { place_is = refl; next_is = longer; to_is = sym is } }))
       by (inr (inr h)) =
           acts_ended g handed w v pending records a s p at answer to [] (one_of Checkpoint (Refused h.fault) w h.between n ∷ one_of (End s) h.gave_up h.between v m ∷ []) tt refl
-          (refl, h.checkpoint.makes, (refl, h.makes, refl))
+          (still w n, h.checkpoint.makes, (still h.between n, h.makes, still v m))
           (record {
             fault = h.fault;
             checkpoint = refl;
@@ -89,7 +93,7 @@ module _ {S : Type 0} (g : Ghosts S) (handed : Handed) (w v : StoreAndSlots S) (
       → HasActed g handed w pending records → HasActed g handed v (slice_set pending s (Some (given_more p answer))) records
   next_acts answer sessions did most on a =
       acts_on g handed w v pending records a s p (given_more p answer) at (one_of (Next s) answer w v n ∷ []) (record { goes = (refl, on); room = tt; unrecorded = refl }, tt)
-      (refl, makes_of g (Next s) answer w v sessions did.goes did.always, refl) refl refl refl most (ap (λ (l : List Entry). p.given ++ l) (sym (append-nil (gift_of answer))))
+      (still w n, makes_of g (Next s) answer w v sessions did.goes did.always, still v n) refl refl refl refl most (ap (λ (l : List Entry). p.given ++ l) (sym (append-nil (gift_of answer))))
 
   -- giving a call up
   pub end_acts : (answer : Answer) → EventEffect g (kind_of (End s)) answer w v → answer ≡ Ended → MayBeLeft p.asked p.given (ready_count (slot_of w.slots s)) (slot_add (slot_of w.slots s)) → (to : ℕ) → to ≡ (g.state v.store).acts
@@ -97,5 +101,5 @@ module _ {S : Type 0} (g : Ghosts S) (handed : Handed) (w v : StoreAndSlots S) (
   end_acts answer makes ended may to to_is a =
       let m = length (records ++ completed_of s p answer to ∷ []) in
       let longer : m ≡ suc n = (let x = length-append records (completed_of s p answer to ∷ []) in omega (arith, x)) in
-      acts_ended g handed w v pending records a s p at answer to [] (one_of (End s) answer w v m ∷ []) tt refl (refl, makes, refl)
+      acts_ended g handed w v pending records a s p at answer to [] (one_of (End s) answer w v m ∷ []) tt refl (still w n, makes, still v m)
       (inr (record { event_is = refl; answer_is = ended; told = ended; may = may; makes = record { place_is = refl; next_is = longer; to_is = sym to_is } }))

@@ -2,6 +2,7 @@
 -- from the world as it was handed in.
 use Rattle.std.specs.Prelude.{◌≡◌, ◌⊎◌, ℕ, suc, ◌<◌, false, true, Option, Some, None, List, [], ◌∷◌, ◌++◌, length, slice_get}
 use Rattle.std.specs.List.{AllByRecursion}
+use Rattle.index_model.specs.Row.{Row}
 use Rattle.index_model.specs.declared.entry.Entry.{Entry}
 use Rattle.index_model.specs.declared.fault.Fault.{Fault}
 use Rattle.page_action.specs.declared.page_store.PageStore.{Ghosts}
@@ -22,11 +23,8 @@ use Rattle.session_seats.specs.declared.job.Job.{Job}
 use Rattle.session_seats.specs.declared.job.Job.TheVariants.{Scan}
 use Rattle.shared_world.specs.Handed.{Handed, IsAsHanded}
 use Rattle.shared_world.specs.Jobs.{event_of, IsWithinRoom}
+use Rattle.shared_world.specs.Rows.{rows_in, set_asked}
 use Rattle.shared_world.specs.Transitions.{LockMoment, Transition, IsPath, Owner, OfRecord, OfSession, owned_by, gifts_of}
-
--- it ends no call
-abbrev pub IsUnrecorded : {S : Type 0} → Transition S → Type 0
-IsUnrecorded t = t.after.recorded ≡ t.before.recorded
 
 -- the call at this place of the log is over after it; so many actions there are then
 pub record MakesRecord {S : Type 0} (g : Ghosts S) (place to : ℕ) (t : Transition S) : Type 0 where
@@ -34,11 +32,12 @@ pub record MakesRecord {S : Type 0} (g : Ghosts S) (place to : ℕ) (t : Transit
   pub next_is : t.after.recorded ≡ suc place
   pub to_is : (g.state t.after.here.store).acts ≡ to
 
--- the event that begins the job, or does it whole, if its session runs nothing; so many calls were over and
--- so many actions there were before
-pub record IsBeginning {S : Type 0} (g : Ghosts S) (session : ℕ) (job : Job) (seen from : ℕ) (answer : Answer) (t : Transition S) : Type 0 where
+-- the event that begins the job, or does it whole, if its session runs nothing; it is to remove the rows that
+-- it names now; so many calls were over and so many actions there were before
+pub record IsBeginning {S : Type 0} (g : Ghosts S) (session : ℕ) (job : Job) (rows : List Row) (seen from : ℕ) (answer : Answer) (t : Transition S) : Type 0 where
   pub event_is : t.event ≡ event_of session job
   pub answer_is : t.answer ≡ answer
+  pub rows_are : rows_in (set_asked t.before.here.sets job) ≡ rows
   pub seen_is : t.before.recorded ≡ seen
   pub from_is : (g.state t.before.here.store).acts ≡ from
   pub free : has_call t.before.here.slots session ≡ false
@@ -59,16 +58,16 @@ EventKeepsCall session event answer = ⊥
 pub record KeepsRunning {S : Type 0} (g : Ghosts S) (session : ℕ) (t : Transition S) : Type 0 where
   pub goes : EventKeepsCall session t.event t.answer
   pub room : HasRoomForStep g t
-  pub unrecorded : IsUnrecorded t
+  pub unrecorded : t.after.recorded ≡ t.before.recorded
 
 -- what was done for a call that runs: it began, each event since has left it running, and these entries
 -- were given
-pub record AreOfRunning {S : Type 0} (g : Ghosts S) (session : ℕ) (job : Job) (seen from : ℕ) (given : List Entry) (ts : List (Transition S)) : Type 0 where
+pub record AreOfRunning {S : Type 0} (g : Ghosts S) (session : ℕ) (job : Job) (rows : List Row) (seen from : ℕ) (given : List Entry) (ts : List (Transition S)) : Type 0 where
   pub first : Transition S
   pub more : List (Transition S)
   pub are : ts ≡ first ∷ more
-  pub begun : IsBeginning g session job seen from Begun first
-  pub unrecorded : IsUnrecorded first
+  pub begun : IsBeginning g session job rows seen from Begun first
+  pub unrecorded : first.after.recorded ≡ first.before.recorded
   pub on : AllByRecursion (KeepsRunning g session) more
   pub given_is : given ≡ gifts_of more
 
@@ -100,7 +99,7 @@ pub record IsGivenUp {S : Type 0} (g : Ghosts S) (place : ℕ) (r : CompletedCal
   pub checkpoint : c.event ≡ Checkpoint
   pub refused : c.answer ≡ Refused fault
   pub room : HasRoomForStep g c
-  pub unrecorded : IsUnrecorded c
+  pub unrecorded : c.after.recorded ≡ c.before.recorded
   pub event_is : t.event ≡ End r.session
   pub told : r.answer ≡ cut_short (slot_add (slot_of c.before.here.slots r.session)) fault
   pub makes : MakesRecord g place r.to t
@@ -115,7 +114,7 @@ EndsCall g place r ts = ⊥
 pub record IsDoneAtOnce {S : Type 0} (g : Ghosts S) (place : ℕ) (r : CompletedCall) (ts : List (Transition S)) : Type 0 where
   pub one : Transition S
   pub are : ts ≡ one ∷ []
-  pub begins : IsBeginning g r.session r.asked r.seen r.from r.answer one
+  pub begins : IsBeginning g r.session r.asked r.rows r.seen r.from r.answer one
   pub never : r.answer ≡ Begun → ⊥
   pub none : r.given ≡ []
   pub makes : MakesRecord g place r.to one
@@ -125,7 +124,7 @@ pub record IsDoneByCall {S : Type 0} (g : Ghosts S) (place : ℕ) (r : Completed
   pub ran : List (Transition S)
   pub last : List (Transition S)
   pub are : ts ≡ ran ++ last
-  pub runs : AreOfRunning g r.session r.asked r.seen r.from r.given ran
+  pub runs : AreOfRunning g r.session r.asked r.rows r.seen r.from r.given ran
   pub ends : EndsCall g place r last
 
 -- these were done for the call at this place of the log, and nothing else; it gave no more than its room
@@ -137,7 +136,7 @@ pub record AreOfRecord {S : Type 0} (g : Ghosts S) (place : ℕ) (r : CompletedC
 -- ... for the call that a session runs
 pub record AreOfPending {S : Type 0} (g : Ghosts S) (session : ℕ) (p : PendingCall) (ts : List (Transition S)) : Type 0 where
   pub most : IsWithinRoom p.asked p.given
-  pub runs : AreOfRunning g session p.asked p.seen p.from p.given ts
+  pub runs : AreOfRunning g session p.asked p.rows p.seen p.from p.given ts
 
 -- it is a call that is over, or one that runs
 abbrev pub IsKnown : List (Option PendingCall) → List CompletedCall → Owner → Type 0
@@ -153,7 +152,7 @@ pub record HasActed {S : Type 0} (g : Ghosts S) (handed : Handed) (now : StoreAn
   pub owners : List Owner
   pub handed_in : IsAsHanded g handed first.here
   pub unrecorded : first.recorded ≡ 0
-  pub path : IsPath g first transitions (record { here = now; recorded = length log })
+  pub path : IsPath g handed.spare first transitions (record { here = now; recorded = length log })
   pub long : length owners ≡ length transitions
   pub known : AllByRecursion (IsKnown pending log) owners
   pub recorded : (place : ℕ) (r : CompletedCall) → slice_get log place ≡ Some r → AreOfRecord g place r (owned_by (OfRecord place) owners transitions)

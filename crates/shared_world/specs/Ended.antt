@@ -1,5 +1,5 @@
 -- What a run has left when all its jobs are done.
-use Rattle.std.specs.Prelude.{◌≡◌, ℕ, ◌<◌, Bool, Some, List, [], map, length, slice_get}
+use Rattle.std.specs.Prelude.{◌≡◌, ℕ, ◌<◌, Bool, Some, None, List, [], map, length, slice_get}
 use Rattle.index_model.specs.Actions.{Action}
 use Rattle.index_model.specs.Calls.{Call}
 use Rattle.index_model.specs.declared.entry.Entry.{Entry}
@@ -21,13 +21,15 @@ use Rattle.shared_world.specs.Standing.{AreIdle}
 abbrev pub jobs_of_records : List Record → List ℕ
 jobs_of_records records = map (λ r. r.job) records
 
--- All jobs are done. What is kept under the lock is so with no job pending, and so is what was done for each
--- record. Each record asks what its job does. The store follows what it followed, and no session has a call.
--- The records are those of the jobs that were handed out, and each is of one of the workers.
+-- All jobs are done. No set was put. What is kept under the lock is so with no job pending, and so is what
+-- was done for each record. Each record asks what its job does. The store follows what it followed, and no
+-- session has a call. The records are those of the jobs that were handed out, and each is of one of the
+-- workers.
 pub record HasRun {S T : Type 0} (g : Ghosts S) (rows : SetGhosts T) (stood kept_then : (Entry → Bool) → List Action → List Call → Type 0) (followed : S → Type 0)
     (handed : Handed) (jobs : List Job) (workers : ℕ) (world : World S T) (start : ℕ) (records : List Record) : Type 0 where
-  pub kept : ∥ KeepsAll g stood kept_then (inside rows world) start [] (completed_calls records) ∥₁
-  pub acted : ∥ HasActed g handed (inside rows world) [] (completed_calls records) ∥₁
+  pub stays : handed.spare ≡ None
+  pub kept : ∥ KeepsAll g handed stood kept_then (inside rows world) start [] (completed_calls handed.sets records) ∥₁
+  pub acted : ∥ HasActed g handed (inside rows world) [] (completed_calls handed.sets records) ∥₁
   pub booked : AreBooked jobs [] records
   pub comes : ∥ ComesOf g handed start (inside rows world) ∥₁
   pub steps : ∥ StillFollows g followed world.store ∥₁

@@ -1,5 +1,5 @@
 -- What is known of a world as it was handed in, and holds of it on.
-use Rattle.std.specs.Prelude.{◌≡◌, ℕ, true, false, List, [], Option, length}
+use Rattle.std.specs.Prelude.{◌≡◌, ℕ, false, true, List, [], Option, Some, None, length, slice_get}
 use Rattle.index_model.specs.declared.layout.Layout.TheVariants.{One}
 use Rattle.index_model.specs.declared.dead_rows.DeadRows.{Ghosts as SetGhosts}
 use Rattle.page_action.specs.States.{State, Backing, IsLater}
@@ -11,12 +11,13 @@ use Rattle.world.specs.Worlds.{inside}
 use Rattle.world.specs.declared.world.World.{World}
 
 -- all that is seen of its store: pages, calls and holdings, and the log and the device; what its sessions
--- ran, and the sets of dead rows
+-- ran, and the sets of dead rows; and the place at which others may be put, if there is one
 pub record Handed : Type 0 where
   pub state : State
   pub backing : Backing
   pub slots : List (Option Op)
   pub sets : DeadSets
+  pub spare : Option ℕ
 
 -- if none is
 abbrev pub nothing_handed : Handed
@@ -36,6 +37,7 @@ nothing_handed = record {
   backing = record { durable = 0; room = 0; promised = 0; stopped = false; honest = true; failures = 0; changed = []; waiting = [] };
   slots = [];
   sets = [];
+  spare = None;
 }
 
 -- a world as it was handed in
@@ -45,22 +47,29 @@ pub record IsAsHanded {S : Type 0} (g : Ghosts S) (handed : Handed) (first : Sto
   pub slots_are : first.slots ≡ handed.slots
   pub sets_are : first.sets ≡ handed.sets
 
--- the world handed in has become this one: its sessions and sets are the same, and its device is a later one
+-- the sets have become these: the same, but at the spare place, if there is one
+abbrev pub SetsGo : Option ℕ → DeadSets → DeadSets → Type 0
+SetsGo None old new = new ≡ old
+SetsGo (Some place) old new = (length new ≡ length old) × ((at : ℕ) → (at ≡ place → ⊥) → slice_get new at ≡ slice_get old at)
+
+-- the world handed in has become this one: its sessions are the same, so are its sets, but at the spare
+-- place, and its device is a later one
 pub record ComesOf {S : Type 0} (g : Ghosts S) (handed : Handed) (start : ℕ) (now : StoreAndSlots S) : Type 0 where
   pub start_is : start ≡ handed.state.acts
   pub sessions_are : length now.slots ≡ length handed.slots
-  pub sets_are : now.sets ≡ handed.sets
+  pub sets_are : SetsGo handed.spare handed.sets now.sets
   pub later : IsLater handed.backing (g.backing now.store)
 
 -- a store follows each of these, which that of the world followed as it was handed in
 abbrev pub StillFollows : {S : Type 0} → Ghosts S → (S → Type 0) → S → Type 0
 StillFollows {S} g followed now = (first : S) → followed first → g.follows first now
 
--- what is known of a world that is handed in now
-abbrev pub handed_of : {S T : Type 0} → Ghosts S → SetGhosts T → World S T → Handed
-handed_of g rows world = record {
+-- what is known of a world that is handed in now, at this place of which sets may be put, if there is one
+abbrev pub handed_of : {S T : Type 0} → Ghosts S → SetGhosts T → Option ℕ → World S T → Handed
+handed_of g rows spare world = record {
   state = g.state world.store;
   backing = g.backing world.store;
   slots = world.calls.slots.items;
   sets = (inside rows world).sets;
+  spare = spare;
 }

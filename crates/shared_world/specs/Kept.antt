@@ -4,11 +4,11 @@
 use Rattle.std.specs.Prelude.{◌≡◌, ◌⊎◌, ℕ, ◌<◌, ◌≤◌, Bool, true, false, Option, Some, None, List, ◌++◌, length, slice_get}
 use Rattle.index_model.specs.Actions.{Action}
 use Rattle.index_model.specs.Calls.{Ask, Ending, Running, Added as EndsAdded, Finished as EndsFinished, Vacuumed, GivenUp, Failed, Call}
+use Rattle.index_model.specs.Row.{Row}
 use Rattle.index_model.specs.declared.entry.Entry.{Entry}
 use Rattle.index_model.specs.declared.fault.Fault.{Fault}
 use Rattle.index_model.specs.declared.fault.Fault.TheVariants.{Blocked}
 use Rattle.page_action.specs.declared.page_store.PageStore.{Ghosts}
-use Rattle.session_calls.specs.TheoremCalls.{DeadSets, asked_by}
 use Rattle.session_calls.specs.Slots.{has_call}
 use Rattle.session_calls.specs.declared.answer.Answer.{Answer}
 use Rattle.session_calls.specs.declared.answer.Answer.TheVariants.{Added, Done, Finished, Ended, Refused}
@@ -24,8 +24,10 @@ use Rattle.schedule.specs.Ready.{MayComeNext}
 use Rattle.session_seats.specs.declared.call.CompletedCall.{CompletedCall}
 use Rattle.session_seats.specs.declared.call.PendingCall.{PendingCall}
 use Rattle.session_seats.specs.declared.job.Job.{Job}
-use Rattle.session_seats.specs.declared.job.Job.TheVariants.{Scan}
+use Rattle.session_seats.specs.declared.job.Job.TheVariants.{Bulk, Scan}
+use Rattle.shared_world.specs.Handed.{Handed}
 use Rattle.shared_world.specs.Jobs.{request_of, upkeep_of, IsWithinRoom}
+use Rattle.shared_world.specs.Rows.{asked_with, rows_in, set_asked}
 
 -- the ending that a last answer tells
 abbrev pub ending_by : Answer → Ending
@@ -42,15 +44,6 @@ pub record WasCutShort (answer : Answer) (call : Call) : Type 0 where
   pub told : answer ≡ cut_short call.added fault
   pub ending : call.ending ≡ GivenUp
 
--- what an answer tells that is blocked
-abbrev pub IsBlocked : Answer → Type 0
-IsBlocked (Refused (Blocked block)) = Unit {0}
-IsBlocked answer = ⊥
-
--- how a call has ended whose last answer was this
-abbrev pub HasEndedBy : Answer → Call → Type 0
-HasEndedBy answer call = (call.ending ≡ ending_by answer) ⊎ WasCutShort answer call
-
 -- the call is what the log says of one that is over: what was asked, by its session, with its answer, all
 -- that it gave, and its interval
 pub record IsCallOf (ask : Ask) (r : CompletedCall) (call : Call) : Type 0 where
@@ -60,9 +53,9 @@ pub record IsCallOf (ask : Ask) (r : CompletedCall) (call : Call) : Type 0 where
   pub given_is : call.given ≡ r.given
   pub until_is : call.until ≡ r.to
   pub over : call.ending ≡ Running → ⊥
-  pub ends : HasEndedBy r.answer call
+  pub ends : (call.ending ≡ ending_by r.answer) ⊎ WasCutShort r.answer call
   -- one that is blocked goes on, and isn't in the log for it
-  pub settled : IsBlocked r.answer → ⊥
+  pub settled : (block : ℕ) → r.answer ≡ Refused (Blocked block) → ⊥
 
 -- A call with this Add was left by its session rightly. If the room of a scan was full, there was one match
 -- more, beyond all that it gave, at some moment of its interval. Any other call has no Add.
@@ -70,16 +63,24 @@ abbrev pub WasLeft : (Entry → Bool) → List Action → Job → CompletedCall 
 WasLeft start history (Scan range room) r added = (length r.given < room) ⊎ MayComeNext start history range r.from r.to r.given
 WasLeft start history job r added = added ≡ None
 
--- The log lists a call at a place, which was asked what the log says. A scan gave no more than its room
--- holds. If its session left the call, it did so rightly.
-pub record ListsCall (start : Entry → Bool) (history : List Action) (sets : DeadSets) (calls : List Call) (at : List (Option ℕ)) (place : ℕ) (r : CompletedCall) : Type 0 where
+-- the set that a call was to remove which was asked this: its rows are these, and unless its place is spare
+-- it is the one that was named among the sets that were handed in
+pub record IsToRemove (handed : Handed) (job : Job) (rows : List Row) (set : Row → Bool) : Type 0 where
+  pub rows_are : rows ≡ rows_in set
+  pub stays : ((place : ℕ) → handed.spare ≡ Some place → job ≡ Bulk place → ⊥) → set ≡ set_asked handed.sets job
+
+-- The log lists a call at a place, which was asked what the log says, to remove the rows that it says. A scan
+-- gave no more than its room holds. If its session left the call, it did so rightly.
+pub record ListsCall (start : Entry → Bool) (history : List Action) (handed : Handed) (calls : List Call) (at : List (Option ℕ)) (place : ℕ) (r : CompletedCall) : Type 0 where
   pub number : ℕ
   pub request : Request
+  pub set : Row → Bool
   pub call : Call
   pub at_is : slice_get at place ≡ Some (Some number)
   pub asks : request_of r.asked ≡ Some request
   pub found : slice_get calls number ≡ Some call
-  pub is : IsCallOf (asked_by sets request) r call
+  pub removes : IsToRemove handed r.asked r.rows set
+  pub is : IsCallOf (asked_with set request) r call
   pub most : IsWithinRoom r.asked r.given
   pub left : r.answer ≡ Ended → WasLeft start history r.asked r call.added
 
@@ -94,18 +95,17 @@ pub record ListsUpkeep (durable : ℕ) (at : List (Option ℕ)) (place : ℕ) (r
   pub still : r.to ≡ r.from
   pub kept : (count : ℕ) → kept_answer upkeep count ≡ Some r.answer → (count ≡ r.to) × (count ≤ durable)
 
-abbrev pub Lists : (Entry → Bool) → List Action → ℕ → DeadSets → List Call → List (Option ℕ) → ℕ → CompletedCall → Type 0
-Lists start history durable sets calls at place r = ListsCall start history sets calls at place r ⊎ ListsUpkeep durable at place r
-
 -- the session's call runs, and was begun since the world was handed in
-pub record RunsCall (sets : DeadSets) (first : ℕ) (calls : List Call) (session : ℕ) (p : PendingCall) : Type 0 where
+pub record RunsCall (handed : Handed) (first : ℕ) (calls : List Call) (session : ℕ) (p : PendingCall) : Type 0 where
   pub number : ℕ
   pub request : Request
+  pub set : Row → Bool
   pub call : Call
   pub asks : request_of p.asked ≡ Some request
   pub own : first ≤ number
   pub is : IsRunningCall calls session number call
-  pub ask_is : call.ask ≡ asked_by sets request
+  pub removes : IsToRemove handed p.asked p.rows set
+  pub ask_is : call.ask ≡ asked_with set request
   pub began_is : call.began ≡ p.from
   pub given_is : call.given ≡ p.given
   pub most : IsWithinRoom p.asked p.given
@@ -122,15 +122,12 @@ pub record IsPending (calls : List Call) (pending : List (Option PendingCall)) (
 abbrev pub IsOurs : List Call → List (Option ℕ) → List (Option PendingCall) → ℕ → Type 0
 IsOurs calls at pending number = ((place : ℕ) × (slice_get at place ≡ Some (Some number))) ⊎ IsPending calls pending number
 
--- a call comes after all that its session had before
-abbrev pub CallFollows : List CompletedCall → ℕ → ℕ → ℕ → Type 0
-CallFollows log session seen from = (place : ℕ) (r : CompletedCall) → slice_get log place ≡ Some r → r.session ≡ session → (place < seen) × (r.to ≤ from)
-
 -- where a running call stands in the log and among the actions
 pub record IsSince (log : List CompletedCall) (count session seen from : ℕ) : Type 0 where
   pub seen_is : seen ≤ length log
   pub from_is : from ≤ count
-  pub follows : CallFollows log session seen from
+  -- it comes after all that its session had before
+  pub follows : (place : ℕ) (r : CompletedCall) → slice_get log place ≡ Some r → r.session ≡ session → (place < seen) × (r.to ≤ from)
 
 -- where a call that is over stands
 pub record IsInTime (count place : ℕ) (r : CompletedCall) : Type 0 where
@@ -140,7 +137,7 @@ pub record IsInTime (count place : ℕ) (r : CompletedCall) : Type 0 where
 
 -- What fitted the world as it was handed in goes on to what fits it now. `KeptThen` says that the history was
 -- kept then.
-pub record KeepsFitting {S : Type 0} (g : Ghosts S) (contents : Entry → Bool) (old_history : List Action) (old_calls : List Call)
+pub record KeepsFitting {S : Type 0} (g : Ghosts S) (handed : Handed) (contents : Entry → Bool) (old_history : List Action) (old_calls : List Call)
     (KeptThen : Type 0) (now : StoreAndSlots S) (start : ℕ) (pending : List (Option PendingCall)) (log : List CompletedCall) : Type 0 where
   pub history : List Action
   pub calls : List Call
@@ -158,21 +155,21 @@ pub record KeepsFitting {S : Type 0} (g : Ghosts S) (contents : Entry → Bool) 
   pub owned : (place : ℕ) (action : Action) → length old_history ≤ place → slice_get history place ≡ Some action → (length old_calls ≤ action.by) × (action.by < length calls)
   -- the log lists calls, commits and checkpoints, and no call twice
   pub long : length at ≡ length log
-  pub listed : (place : ℕ) (r : CompletedCall) → slice_get log place ≡ Some r → Lists contents history (g.backing now.store).durable now.sets calls at place r
+  pub listed : (place : ℕ) (r : CompletedCall) → slice_get log place ≡ Some r → ListsCall contents history handed calls at place r ⊎ ListsUpkeep (g.backing now.store).durable at place r
   pub once : (p q number : ℕ) → slice_get at p ≡ Some (Some number) → slice_get at q ≡ Some (Some number) → p ≡ q
   -- each pending call runs
-  pub runs : (session : ℕ) (p : PendingCall) → slice_get pending session ≡ Some (Some p) → RunsCall now.sets (length old_calls) calls session p
+  pub runs : (session : ℕ) (p : PendingCall) → slice_get pending session ≡ Some (Some p) → RunsCall handed (length old_calls) calls session p
   pub since : (session : ℕ) (p : PendingCall) → slice_get pending session ≡ Some (Some p) → IsSince log (length history) session p.seen p.from
   -- of one session's calls each lies after the one before
   pub follows : (p q : ℕ) (r t : CompletedCall) → p < q → slice_get log p ≡ Some r → slice_get log q ≡ Some t → r.session ≡ t.session → (p < t.seen) × (r.to ≤ t.from)
   pub in_time : (place : ℕ) (r : CompletedCall) → slice_get log place ≡ Some r → IsInTime (length history) place r
 
 -- as long as the device kept its model, of whatever fitted the world as it was handed in
-abbrev pub KeepsAll : {S : Type 0} → Ghosts S → ((Entry → Bool) → List Action → List Call → Type 0)
+abbrev pub KeepsAll : {S : Type 0} → Ghosts S → Handed → ((Entry → Bool) → List Action → List Call → Type 0)
     → ((Entry → Bool) → List Action → List Call → Type 0) → StoreAndSlots S → ℕ → List (Option PendingCall) → List CompletedCall → Type 0
-KeepsAll g stood kept_then now start pending log =
+KeepsAll g handed stood kept_then now start pending log =
     (g.backing now.store).honest ≡ true → (contents : Entry → Bool) (history : List Action) (calls : List Call) → stood contents history calls
-    → KeepsFitting g contents history calls (kept_then contents history calls) now start pending log
+    → KeepsFitting g handed contents history calls (kept_then contents history calls) now start pending log
 
 -- the sessions that have a call are those that are pending
 pub record MatchesPending (slots : List (Option Op)) (pending : List (Option PendingCall)) : Type 0 where

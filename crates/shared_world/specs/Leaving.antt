@@ -1,5 +1,6 @@
 -- What an event under the lock leaves of a session's call, to the keeper and to the session's seat.
 use Rattle.std.specs.Prelude.{◌≡◌, ℕ, Bool, true, false, Option, Some, None, unwrap_or, List, [], ◌∷◌, ◌++◌, length, slice_set}
+use Rattle.index_model.specs.Row.{Row}
 use Rattle.session_calls.specs.declared.answer.Answer.{Answer}
 use Rattle.session_calls.specs.declared.answer.Answer.TheVariants.{Begun}
 use Rattle.session_seats.specs.Calls.{completed_of, empty_call}
@@ -27,9 +28,9 @@ call_in v = unwrap_or v.call empty_call
 abbrev pub RunsItsCall : SessionView → Type 0
 RunsItsCall v = v.call ≡ Some (call_in v)
 
--- the call that begins now, after so many actions and so many calls that are over
-abbrev pub call_begun : Job → ℕ → ℕ → PendingCall
-call_begun asked from seen = record { asked = asked; given = []; from = from; seen = seen }
+-- the call that begins now and is to remove these rows, after so many actions and so many calls that are over
+abbrev pub call_begun : Job → List Row → ℕ → ℕ → PendingCall
+call_begun asked rows from seen = record { asked = asked; rows = rows; given = []; from = from; seen = seen }
 
 -- a call may give one entry more
 abbrev pub HasRoomLeft : PendingCall → Type 0

@@ -8,6 +8,7 @@ pub mod Kept
 pub mod Leaving
 pub mod Notes
 pub mod Props
+pub mod Rows
 pub mod Seated
 pub mod Standing
 pub mod Transitions

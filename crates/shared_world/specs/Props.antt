@@ -2,6 +2,7 @@
 use Rattle.std.specs.Prelude.{ℕ, Option, Some, None, List}
 use Rattle.std.proofs.Props.{props}
 use Rattle.index_model.specs.declared.entry.Entry.{Entry}
+use Rattle.session_calls.specs.TheoremCalls.{DeadSets}
 use Rattle.session_seats.specs.declared.group.SessionGroup.{Ghosts as GroupGhosts}
 use Rattle.session_seats.specs.declared.job.Job.{Job}
 use Rattle.session_seats.specs.declared.job.Job.TheVariants.{Scan}
@@ -19,11 +20,11 @@ ScanIsFull-prop job given = hlevel props
 pub AreBooked-prop : (jobs : List Job) (pending : List (Option Pending)) (records : List Record) → IsProp (AreBooked jobs pending records)
 AreBooked-prop jobs pending records = hlevel (props, ScanIsFull-prop)
 
-IsSeatAt-prop : {J : Type 0} {group : GroupGhosts J} (session : ℕ) (running : Option (Option Pending)) (place : Option (Option (SessionSeat J group))) → IsProp (IsSeatAt session running place)
-IsSeatAt-prop session (Some running) (Some (Some seat)) = hlevel props
-IsSeatAt-prop session (Some running) (Some None) = hlevel props
-IsSeatAt-prop session (Some running) None = hlevel props
-IsSeatAt-prop session None place = hlevel props
+IsSeatAt-prop : {J : Type 0} {group : GroupGhosts J} (sets : DeadSets) (session : ℕ) (running : Option (Option Pending)) (place : Option (Option (SessionSeat J group))) → IsProp (IsSeatAt sets session running place)
+IsSeatAt-prop sets session (Some running) (Some (Some seat)) = hlevel props
+IsSeatAt-prop sets session (Some running) (Some None) = hlevel props
+IsSeatAt-prop sets session (Some running) None = hlevel props
+IsSeatAt-prop sets session None place = hlevel props
 
-pub AreSeated-prop : {J : Type 0} {group : GroupGhosts J} (workers : ℕ) (pending : List (Option Pending)) (seats : List (Option (SessionSeat J group))) → IsProp (AreSeated workers pending seats)
-AreSeated-prop workers pending seats = hlevel (props, IsSeatAt-prop)
+pub AreSeated-prop : {J : Type 0} {group : GroupGhosts J} (sets : DeadSets) (workers : ℕ) (pending : List (Option Pending)) (seats : List (Option (SessionSeat J group))) → IsProp (AreSeated sets workers pending seats)
+AreSeated-prop sets workers pending seats = hlevel (props, IsSeatAt-prop)

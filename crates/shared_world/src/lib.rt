@@ -3,6 +3,7 @@
 #![tactic(auto)]
 
 mod jobs;
+mod laws;
 mod live;
 mod opening;
 mod origin;
@@ -10,6 +11,7 @@ mod record;
 mod shared;
 
 pub use jobs::{Jobs, JobsOn};
+pub use laws::rows_tell_sets;
 pub use live::{Live, SessionTurn};
 pub use opening::{ended, first};
 pub use origin::{Origin, OriginOn};

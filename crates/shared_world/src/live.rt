@@ -1,19 +1,21 @@
 //! A world under a lock, with sessions that come with calls one at a time: each event in one hold.
 
-ghost use Rattle.std.specs.Prelude.{◌≡◌, ◌≤◌, [], ℕ, true, false, not, length, None, Some, slice_get};
+ghost use Rattle.std.specs.Prelude.{◌≡◌, ◌≤◌, [], ℕ, true, false, not, length, None, Some, IfOk, IfErr, OnOk, OnErr, slice_get, slice_set};
 ghost use Rattle.session_calls.specs.Sessions.{ready_count, slot_add};
 ghost use Rattle.session_calls.specs.Slots.{slot_of};
 ghost use Rattle.whole_calls.specs.Going.{CallIsRun};
 ghost use Rattle.whole_calls.specs.Made.{IsMadeOf};
 ghost use Rattle.whole_calls.specs.OneStep.{IsMadeAsStep, OneStepAlways, OneStepComesTo, OneStepIsRun};
+ghost use Rattle.world.specs.Sets.{IsNotPutFor};
 ghost use Rattle.world.specs.Worlds.{inside};
-ghost use Rattle.session_seats.specs.Calls.{given_more};
-ghost use Rattle.session_seats.specs.Seats.{view_of};
+ghost use Rattle.session_seats.specs.Calls.{begun_by, given_more};
+ghost use Rattle.session_seats.specs.Seats.{keeper_with, view_of};
 ghost use Rattle.shared_world.specs.Acted.{HasActed, MayBeLeft};
 ghost use Rattle.shared_world.specs.Doing.{IsEventDone};
 ghost use Rattle.shared_world.specs.Handed.{ComesOf, IsAsHanded, StillFollows};
 ghost use Rattle.shared_world.specs.Jobs.{event_of};
 ghost use Rattle.shared_world.specs.Kept.{KeepsAll, MatchesPending};
+ghost use Rattle.shared_world.specs.Rows.{rows_in, set_asked};
 ghost use Rattle.shared_world.specs.Standing.{AreIdle, Stands};
 ghost use Rattle.session_seats.specs.declared.call.PendingCall.{PendingCall as RunningCall};
 ghost use Rattle.shared_world.specs.Leaving.{HasRoomLeft, LeavesCall, RunsItsCall, call_begun, call_in, is_begun, notice_of};
@@ -23,8 +25,11 @@ use index_model::DeadRows;
 use page_action::PageStore;
 use schedule::{Event, one_call_runs, ready_entries_may_come_next, refused_calls_fit};
 use session_calls::Answer;
-use session_seats::{Job, Notice, SessionDesk, SessionGroup, SessionSeat, begin, check, end, gave};
-use world::World;
+use session_seats::{
+    AskedRows, Job, Notice, SessionDesk, SessionGroup, SessionSeat, begin, check, end, gave,
+};
+use std::marker::Brand;
+use world::{NotPut, World};
 
 /// A world whose sessions threads share. It lies under their lock, and its facts hold at each release. It
 /// keeps no record of what was done: the log of all calls stands in the keeper's view, for clauses alone.
@@ -36,7 +41,7 @@ pub struct Live<S: PageStore, T: DeadRows + Drop, J: OriginOn<S>> {
     /// How many events were done since, modulo 2^64: by this a thread that waits sees that another moved.
     pub moves: u64,
     pub desk: SessionDesk<J>,
-    pub ghost kept: { ∥ KeepsAll S.PageStore J.stood J.kept_then (inside T.DeadRows world) start
+    pub ghost kept: { ∥ KeepsAll S.PageStore J.handed J.stood J.kept_then (inside T.DeadRows world) start
         (view_of desk.keeper).pending (view_of desk.keeper).log ∥₁ },
     pub ghost acted: { ∥ HasActed S.PageStore J.handed (inside T.DeadRows world)
         (view_of desk.keeper).pending (view_of desk.keeper).log ∥₁ },
@@ -99,6 +104,28 @@ fn beginning(session: u32, job: &Job) -> Event
     }
 }
 
+// The call of the seat's session begins, which is asked what the notice tells, and is to remove the rows that
+// it names among the sets of this world.
+fn begin_naming<S: PageStore, T: DeadRows, J: SessionGroup, B: AskedRows>(
+    world: &World<S, T>,
+    desk: &mut SessionDesk<J>,
+    seat: SessionSeat<J>,
+    notice: &Notice,
+) -> SessionSeat<J>
+    requires rows { B.rows ≡ rows_in (set_asked (inside T.DeadRows world.now).sets notice.now.asked) }
+    ensures keeper { view_of desk.new.keeper ≡ keeper_with (view_of desk.old.keeper).log
+        (slice_set (view_of desk.old.keeper).pending seat.session (Some (begun_by
+        (rows_in (set_asked (inside T.DeadRows world.now).sets notice.now.asked)) notice.now
+        (length (view_of desk.old.keeper).log)))) }
+    ensures session { result.session ≡ seat.session }
+    ensures call { (view_of result.pass).call ≡ Some (begun_by
+        (rows_in (set_asked (inside T.DeadRows world.now).sets notice.now.asked)) notice.now
+        (length (view_of desk.old.keeper).log)) }
+    ensures calls { (view_of result.pass).calls ≡ (view_of seat.pass).calls }
+{
+    begin::<J, B>(desk, seat, notice)
+}
+
 impl<S: PageStore, T: DeadRows + Drop, J: OriginOn<S>> Live<S, T, J> {
     /// What lies under the lock at first: the world, with seats that have had no call.
     pub fn new(world: World<S, T>, desk: SessionDesk<J>) -> Live<S, T, J>
@@ -122,6 +149,27 @@ impl<S: PageStore, T: DeadRows + Drop, J: OriginOn<S>> Live<S, T, J> {
         }
     }
 
+    /// Puts a set of dead rows at this place among the world's, and hands out the one that was there. No call
+    /// is touched: each that began is to remove what it was. Refused as `World::put_set` is, with the set
+    /// given back and nothing changed.
+    pub fn put_set(&mut self, at: u32, set: T) -> Result<T, NotPut<T>>
+        requires may { J.handed.spare ≡ Some at }
+        ensures was { IfOk result (λ was. slice_get self.old.world.sets.items at ≡ Some was) }
+        ensures put { OnOk result
+            (self.new.world.sets.items ≡ slice_set self.old.world.sets.items at set) }
+        ensures store { self.new.world.store ≡ self.old.world.store }
+        ensures calls { self.new.world.calls ≡ self.old.world.calls }
+        ensures desk { self.new.desk ≡ self.old.desk }
+        ensures start { self.new.start ≡ self.old.start }
+        ensures moves { self.new.moves ≡ self.old.moves }
+        ensures refused { OnErr result (self.new.world ≡ self.old.world) }
+        ensures given_back { IfErr result (λ not_put. not_put.set ≡ set) }
+        ensures cause { IfErr result (λ not_put.
+            IsNotPutFor S.PageStore not_put.fault at self.old.world) }
+    {
+        self.world.put_set(at, set)
+    }
+
     /// Begins a call of the session, or does a commit or a checkpoint, which is done whole. A call that is
     /// refused is over, and so is a commit or a checkpoint.
     pub fn begin(&mut self, seat: SessionSeat<J>, asked: Job) -> SessionTurn<J>
@@ -132,7 +180,7 @@ impl<S: PageStore, T: DeadRows + Drop, J: OriginOn<S>> Live<S, T, J> {
             (inside T.DeadRows self.old.world) (inside T.DeadRows self.new.world) }
         ensures over { result.over ≡ not (is_begun result.answer) }
         ensures told { LeavesCall seat.session result.over
-            (call_begun asked (S.state self.old.world.store).acts (length (view_of self.old.desk.keeper).log))
+            (call_begun asked (rows_in (set_asked (inside T.DeadRows self.old.world).sets asked)) (S.state self.old.world.store).acts (length (view_of self.old.desk.keeper).log))
             result.answer (S.state self.old.world.store).acts
             (view_of self.old.desk.keeper) (view_of self.new.desk.keeper)
             (view_of seat.pass) (view_of result.seat.pass) }
@@ -150,7 +198,7 @@ impl<S: PageStore, T: DeadRows + Drop, J: OriginOn<S>> Live<S, T, J> {
         let answer = world.one(beginning(session, &asked));
         *moves = moves.wrapping_add(1);
         let said = notice(&asked, &answer, from);
-        let seat = begin(desk, seat, &said);
+        let seat = begin_naming::<S, T, J, Brand>(world, desk, seat, &said);
         if is_begun(&answer) {
             return turn(seat, answer, false);
         }

@@ -4,6 +4,7 @@ ghost use Rattle.std.specs.Prelude.{◌≡◌, ◌≤◌, ◌<◌, ◌+◌, [], 
 ghost use Rattle.crossbeam_queue.specs.Passes.{view};
 ghost use Rattle.worker_seats.specs.Queue.{KnowsAll, jobs_in, sum_over, weigh};
 ghost use Rattle.worker_seats.specs.Seats.{keeper_of, known_by, notes_by};
+ghost use Rattle.session_calls.specs.TheoremCalls.{DeadSets};
 ghost use Rattle.world.specs.Worlds.{inside};
 ghost use Rattle.shared_world.specs.Ended.{HasRun};
 ghost use Rattle.shared_world.specs.Handed.{IsAsHanded};
@@ -34,8 +35,8 @@ fn open_seats<J: SessionGroup>(
     requires empty { seats.old.items ≡ [] }
     requires room { count ≤ vec_capacity seats.old }
     ensures keeper { view_of sessions.new.keeper ≡ keeper_with [] (replicate count None) }
-    ensures seats { (session : ℕ) → session < count
-        → IsSeatAt session (Some None) (slice_get seats.new.items session) }
+    ensures seats { (sets : DeadSets) (session : ℕ) → session < count
+        → IsSeatAt sets session (Some None) (slice_get seats.new.items session) }
 {
     for session in 0..count {
         let seat = open(sessions, session);
@@ -55,6 +56,7 @@ pub fn first<S: PageStore, T: DeadRows + Drop, J: JobsOn<S>>(
 ) -> Shared<S, T, J>
     requires stood { Stands S.PageStore J.stood J.kept_then J.followed (inside T.DeadRows world) }
     requires handed { IsAsHanded S.PageStore J.handed (inside T.DeadRows world) }
+    requires stays { J.handed.spare ≡ None }
     requires rests { AreIdle world.calls.slots.items }
     requires history { history.items ≡ [] }
     requires enough { length J.jobs ≤ vec_capacity history }

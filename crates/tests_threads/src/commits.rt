@@ -3,7 +3,7 @@
 use crate::indexes::{fresh_calls, made};
 use crate::judged::{calls_in, gated, ran, records_of};
 use crate::lists::{entry, range, spread_commits};
-use index_model::Limits;
+use index_model::{Limits, Noted, reckon};
 use session_calls::Answer;
 use sessions::{Gate, Told};
 use shared_world::{Job, Record};
@@ -93,14 +93,14 @@ struct Waiting {
 }
 
 impl Gate for Waiting {
-    type Hand = Told;
+    type Hand = Noted<Told>;
 
-    fn hand(&self, _worker: u32) -> Told {
-        Told::new()
+    fn hand(&self, _worker: u32) -> Noted<Told> {
+        reckon(&())
     }
 
-    fn taken(&self, hand: &mut Told, _worker: u32, job: u32) {
-        hand.note(u64::from(job));
+    fn taken(&self, hand: &mut Noted<Told>, _worker: u32, job: u32) {
+        *hand = reckon(&(&*hand, job));
         if job == 2 {
             self.third.store(true, Ordering::SeqCst);
         }

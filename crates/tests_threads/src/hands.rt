@@ -306,6 +306,7 @@ fn seated<S: PageStore, T: DeadRows + Drop, J: JobsOn<S>>(
     requires all { blank.parts ≡ 65 }
     requires workers { J.workers ≡ workers }
     requires handed { IsAsHanded S.PageStore J.handed (inside T.DeadRows world) }
+    requires stays { J.handed.spare ≡ None }
     requires stood { Stands S.PageStore J.stood J.kept_then J.followed (inside T.DeadRows world) }
     requires knows { known_by desk.keeper ≡ keeper_of [] [] }
     requires none_known { view_of sessions.keeper ≡ keeper_with [] [] }
@@ -362,7 +363,7 @@ fn act_named<
     requires none_known { view_of session_keeper ≡ keeper_with [] [] }
     requires jobs { J.jobs ≡ jobs.now }
     requires workers { J.workers ≡ by.workers }
-    requires handed { J.handed ≡ handed_of S.PageStore T.DeadRows world }
+    requires handed { J.handed ≡ handed_of S.PageStore T.DeadRows None world }
     requires stood { (contents : OneEntry → Bool) (history : List Action) (calls : List Call)
         → J.stood contents history calls
         ↔ WorldFits S.PageStore T.DeadRows world contents history calls }

@@ -17,12 +17,14 @@ use world::World;
 /// An index on a device in memory.
 pub type InMemory = World<Store<MemDevice>, Blocks>;
 
-/// How many sets of dead rows there are: the first has those of block 1, the next those of block 2.
-pub const SETS: u32 = 2;
+/// How many sets of dead rows there are: the first has those of block 1, the next those of block 2, and the
+/// last those of block 1 again.
+pub const SETS: u32 = 3;
 
 fn sets(alloc: Global) -> Result<Vec<Blocks>, AllocError> {
     let mut sets = Vec::new(alloc);
-    for block in 1..=SETS {
+    for place in 0..SETS {
+        let block = if place == 1 { 2 } else { 1 };
         sets.push(Blocks {
             from: block,
             to: block,
@@ -35,6 +37,14 @@ fn sets(alloc: Global) -> Result<Vec<Blocks>, AllocError> {
 pub fn opened(alloc: Global, device: MemDevice, sessions: u32) -> Result<InMemory, Fail> {
     let sets = sets(alloc)?;
     match open_world(alloc, device, 64, sessions, sets) {
+        Ok(world) => Ok(world),
+        Err(not_opened) => Err(Fail::from(not_opened.fault)),
+    }
+}
+
+/// A new index whose world has no sets.
+pub fn without_sets(alloc: Global, limits: &Limits, sessions: u32) -> Result<InMemory, Fail> {
+    match open_world(alloc, fresh(alloc, limits)?, 64, sessions, Vec::new(alloc)) {
         Ok(world) => Ok(world),
         Err(not_opened) => Err(Fail::from(not_opened.fault)),
     }

@@ -28,4 +28,6 @@ mod shared_failing;
 #[cfg(test)]
 mod shared_mixed;
 #[cfg(test)]
+mod shared_rows;
+#[cfg(test)]
 mod shared_waits;

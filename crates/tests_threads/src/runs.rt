@@ -3,6 +3,7 @@
 use crate::indexes::made;
 use crate::judged::{LIMITS, gated};
 use crate::plain::{entry, hands_of};
+use index_model::{Noted, reckon};
 use session_calls::Answer;
 use sessions::{Gate, NoGate, Told};
 use shared_world::Job;
@@ -30,14 +31,14 @@ fn meet(mine: &AtomicBool, other: &AtomicBool, met: &AtomicBool) {
 }
 
 impl Gate for Meeting {
-    type Hand = Told;
+    type Hand = Noted<Told>;
 
-    fn hand(&self, _worker: u32) -> Told {
-        Told::new()
+    fn hand(&self, _worker: u32) -> Noted<Told> {
+        reckon(&())
     }
 
-    fn taken(&self, hand: &mut Told, _worker: u32, job: u32) {
-        hand.note(u64::from(job));
+    fn taken(&self, hand: &mut Noted<Told>, _worker: u32, job: u32) {
+        *hand = reckon(&(&*hand, job));
         if job == 0 {
             meet(&self.here, &self.there, &self.met_here);
         } else {

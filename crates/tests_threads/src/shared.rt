@@ -73,7 +73,7 @@ impl<'a, R: Wait + Clock> Writers<'a, R> {
                 told.durable = session.commit(self.rt, index)?;
             }
             if place == 50 && number == 4 {
-                told.removed = session.bulk_delete(self.rt, index, 0)?.tuples_removed;
+                told.removed = session.bulk_delete(self.rt, index, 2)?.tuples_removed;
             }
         }
         Ok(told)

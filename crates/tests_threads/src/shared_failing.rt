@@ -131,7 +131,7 @@ impl<'a, R: Wait + Clock + AllocGlobal> Committers<'a, R> {
         }
         let has_stopped = committed.is_err();
         let scanned = self.scan_all(index, session);
-        let deleted = session.bulk_delete(self.rt, index, 0);
+        let deleted = session.bulk_delete(self.rt, index, 2);
         let cleaned = session.clean_up(self.rt, index);
         let kept = session.checkpoint(self.rt, index);
         is_right(&inserted, false)

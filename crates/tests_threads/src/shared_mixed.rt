@@ -231,7 +231,7 @@ impl<'a, R: Wait + Clock + AllocGlobal> Mixers<'a, R> {
         Ok(())
     }
 
-    /// A bulk delete by one of the sets.
+    /// A bulk delete by one of the sets: the rows of block 1, or those of block 2.
     fn delete<S: PageStore, T: DeadRows + Drop, J: OriginOn<S>>(
         &self,
         index: &SharedIndex<S, T, J>,
@@ -241,7 +241,8 @@ impl<'a, R: Wait + Clock + AllocGlobal> Mixers<'a, R> {
     ) -> Result<(), Fault>
         ensures { number_of_seat session.new.seat ≡ number_of_seat session.old.seat }
     {
-        match session.bulk_delete(self.rt, index, set) {
+        let place = if set == 0 { 2 } else { 1 };
+        match session.bulk_delete(self.rt, index, place) {
             Ok(stats) => {
                 told.removed = told.removed.saturating_add(stats.tuples_removed);
                 if let Some(deleted) = told.deleted.get_mut(set as usize) {

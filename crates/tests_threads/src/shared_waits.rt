@@ -127,7 +127,7 @@ impl<'a, R: Wait + Clock + AllocGlobal> Waiters<'a, R> {
     {
         session.set_patience(Some(patience));
         matches!(
-            session.bulk_delete(self.rt, index, 0),
+            session.bulk_delete(self.rt, index, 2),
             Err(Fault::Blocked(1))
         )
     }
@@ -148,7 +148,7 @@ impl<'a, R: Wait + Clock + AllocGlobal> Waiters<'a, R> {
         let has_waited = self.has_waited(since);
         self.reach(2);
         session.set_patience(None);
-        let removed = session.bulk_delete(self.rt, index, 0)?.tuples_removed;
+        let removed = session.bulk_delete(self.rt, index, 2)?.tuples_removed;
         Ok(is_blocked && is_blocked_later && has_waited && removed == 2)
     }
 

@@ -21,8 +21,11 @@ scoped-requires g c =
                   (
                     asks.handed,
                     (
-                      asks.rests,
-                      (search rules, search rules, search rules, search rules, search rules, search rules, search rules, search rules, search rules),
+                      asks.stays,
+                      (
+                        asks.rests,
+                        (search rules, search rules, search rules, search rules, search rules, search rules, search rules, search rules, search rules),
+                      ),
                     ),
                   ),
                 ),

@@ -1,3 +1,4 @@
+use Rattle.std.specs.Prelude.{None}
 use Rattle.sessions.proofs.Imports.{WorldFits, WorldKeeps, handed_of}
 use Rattle.sessions.proofs.run.run_listed.Given as goal
 
@@ -11,7 +12,7 @@ abbrev pub ghosts-run_named-J-Origin : goal.ghosts-run_named-J-Origin
 ghosts-run_named-J-Origin g a = record {
   stood = WorldFits g.S.PageStore g.T.DeadRows a.world;
   kept_then = WorldKeeps g.S.PageStore g.T.DeadRows a.world;
-  handed = handed_of g.S.PageStore g.T.DeadRows a.world;
+  handed = handed_of g.S.PageStore g.T.DeadRows None a.world;
 }
 
 abbrev pub ghosts-run_named-J-SessionGroup : goal.ghosts-run_named-J-SessionGroup

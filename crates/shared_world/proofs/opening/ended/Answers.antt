@@ -21,10 +21,11 @@ returns-clause-done g c =
     let log : (known_by shared.desk.keeper).log ≡ notes_of records = ap (λ (v : SeatView). v.log) view in
     let sum : sum_below n (λ w. length (notes_by w (notes_of records))) ≡ length (notes_of records) =
     subst (λ (l : List (ℕ × ℕ)). sum_below n (λ w. length (notes_by w l)) ≡ length l) log tally.sum in
-    let none = no_call_waits calls pending shared.runs (none_waits pending (λ k l. idle k (omega (arith, l, long)))) in
+    let none = no_call_waits g.J.Origin.handed.sets calls pending shared.runs (none_waits pending (λ k l. idle k (omega (arith, l, long)))) in
     record {
-      kept = ∥∥₁_map live.kept (λ all. subst (λ (l : List CompletedCall). KeepsAll g.S.PageStore g.J.Origin.stood g.J.Origin.kept_then now live.start [] l) shared.told
-          (keeps_nothing_pending g.S.PageStore g.J.Origin.stood g.J.Origin.kept_then now live.start calls (view_of live.desk.keeper).log none all));
+      stays = shared.stays;
+      kept = ∥∥₁_map live.kept (λ all. subst (λ (l : List CompletedCall). KeepsAll g.S.PageStore g.J.Origin.handed g.J.Origin.stood g.J.Origin.kept_then now live.start [] l) shared.told
+          (keeps_nothing_pending g.S.PageStore g.J.Origin.handed g.J.Origin.stood g.J.Origin.kept_then now live.start calls (view_of live.desk.keeper).log none all));
       acted = ∥∥₁_map live.acted (λ a. subst (λ (l : List CompletedCall). HasActed g.S.PageStore g.J.Origin.handed now [] l) shared.told
           (acts_all_done g.S.PageStore g.J.Origin.handed now calls (view_of live.desk.keeper).log none a));
       booked = books_nothing_pending g.J.Jobs.jobs pending records shared.booked;

@@ -19,11 +19,12 @@ invariant_of-result g c =
     let view = ap (λ d. view_of d.keeper) c.new-live.ensures.desk ∙ c.open_seats.ensures.keeper in
     let long : c.len-workers.result ≡ length pending = c.len-workers.ensures ∙ c.args.pending.ok.0 in
     record {
-      told = ap (λ (v : SessionView). v.log) view ∙ ap completed_calls (sym empty);
-      runs = ap (λ (v : SessionView). v.pending) view ∙ ap idle_calls long ∙ sym (none_are pending c.requires.pending);
+      stays = c.requires.stays;
+      told = ap (λ (v : SessionView). v.log) view ∙ ap (completed_calls g.J.Origin.handed.sets) (sym empty);
+      runs = ap (λ (v : SessionView). v.pending) view ∙ ap idle_calls long ∙ sym (none_are g.J.Origin.handed.sets pending c.requires.pending);
       booked = subst (AreBooked g.J.Jobs.jobs pending) (sym empty) (books_none g.J.Jobs.jobs pending c.requires.pending);
-      seated = λ s l. subst (λ (o : Option (Option Pending)). IsSeatAt s o (slice_get c.open_seats.new.seats.items s)) (sym (none_at pending c.requires.pending s (omega (arith, l, c.requires.workers, c.args.pending.ok.0))))
-          (c.open_seats.ensures.seats s (omega (arith, l, c.requires.workers, c.len-workers.ensures)));
+      seated = λ s l. subst (λ (o : Option (Option Pending)). IsSeatAt g.J.Origin.handed.sets s o (slice_get c.open_seats.new.seats.items s)) (sym (none_at pending c.requires.pending s (omega (arith, l, c.requires.workers, c.args.pending.ok.0))))
+          (c.open_seats.ensures.seats g.J.Origin.handed.sets s (omega (arith, l, c.requires.workers, c.len-workers.ensures)));
       workers = c.requires.workers;
       enough = c.requires.enough;
       counted = c.requires.book ∙ sym (c.args.history.ok.0 ∙ ap length empty);

@@ -15,5 +15,5 @@ loop-session-preserved g c =
       opened.keeper ∙ ap (λ (v : SessionView). keeper_with [] (v.pending ++ None ∷ [])) i.0 ∙ ap (keeper_with []) (none_more n),
       push.len ∙ ap (λ x. x + 1) i.1,
       push.capacity ∙ i.2,
-      seats_as (n + 1) _ _ push.items (seats_more c.loop-session.seats.items n c.open-seat.result (sym i.1 ∙ c.loop-session.seats.ok.0) opened.session opened.call i.3),
+      (λ sets. seats_as sets (n + 1) _ _ push.items (seats_more sets c.loop-session.seats.items n c.open-seat.result (sym i.1 ∙ c.loop-session.seats.ok.0) opened.session opened.call (i.3 sets))),
     )

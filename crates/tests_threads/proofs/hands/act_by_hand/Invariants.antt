@@ -1,3 +1,4 @@
+use Rattle.std.specs.Prelude.{None}
 use Rattle.worker_seats.specs.Seats.{no_table}
 use Rattle.world.specs.Worlds.{WorldFits, WorldKeeps}
 use Rattle.shared_world.specs.Handed.{handed_of}
@@ -13,7 +14,7 @@ abbrev pub ghosts-act_named-J-Origin : goal.ghosts-act_named-J-Origin
 ghosts-act_named-J-Origin g a = record {
   stood = WorldFits g.S.PageStore g.T.DeadRows a.world;
   kept_then = WorldKeeps g.S.PageStore g.T.DeadRows a.world;
-  handed = handed_of g.S.PageStore g.T.DeadRows a.world;
+  handed = handed_of g.S.PageStore g.T.DeadRows None a.world;
 }
 
 abbrev pub ghosts-act_named-J-SessionGroup : goal.ghosts-act_named-J-SessionGroup

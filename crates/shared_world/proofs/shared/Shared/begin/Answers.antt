@@ -1,6 +1,9 @@
 use Rattle.std.proofs.Common.{◌≡◌, ◌++◌, ◌∷◌, [], ℕ, Some, None, length, slice_get, slice_set, vec_capacity, refl, sym, ap, ◌∙◌, subst}
 use Rattle.shared_world.specs.Leaving.{call_begun}
 use Rattle.shared_world.proofs.Imports.{IsRoomOf, keeper_of, known_by, event_of, inside, Pending, Record, PendingCall, IsEventDone, record_of, pending_call}
+use Rattle.shared_world.specs.Rows.{rows_in}
+use Rattle.shared_world.proofs.Words.{rows_asked}
+use Rattle.shared_world.proofs.Sharing.{asked_the_same}
 use Rattle.shared_world.proofs.Noting.{set_same}
 use Rattle.shared_world.proofs.Listing.{length_completed}
 use Rattle.shared_world.proofs.Beginning.{begins_no_end}
@@ -34,9 +37,12 @@ invariant_of-self g c =
     let q = c.running-running.result in
     let e = c.running-running.ensures in
     let job = ap (λ (x : Pending). x.job) (sym e) in
-    let p : PendingCall = call_begun c.args.asked (g.S.PageStore.state self.live.world.store).acts (length (keeper_in self).log) in
-    let long = ap length self.told ∙ length_completed self.history.items ∙ sym (c.len-seen.ensures ∙ self.history.ok.0) in
-    let same : p ≡ pending_call q = (λ i. record { asked = c.args.asked; given = sym c.requires.given i; from = sym c.actions-from.ensures i; seen = long i }) ∙ ap pending_call (sym e) in
+    let handed = g.J.Origin.handed.sets in
+    let rows = rows_asked (inside g.T.DeadRows self.live.world).sets c.args.asked in
+    let named : rows ≡ rows_asked handed c.args.asked = ap rows_in (asked_the_same self.live c.args.asked self.stays) in
+    let p : PendingCall = call_begun c.args.asked rows (g.S.PageStore.state self.live.world.store).acts (length (keeper_in self).log) in
+    let long = ap length self.told ∙ length_completed handed self.history.items ∙ sym (c.len-seen.ensures ∙ self.history.ok.0) in
+    let same : p ≡ pending_call handed q = (λ i. record { asked = c.args.asked; rows = named i; given = sym c.requires.given i; from = sym c.actions-from.ensures i; seen = long i }) ∙ ap (pending_call handed) (sym e) in
     let leaves = leaves_at self w None idle seat there c.if-over.true (sym c.actions-from.ensures) turn.ensures.told in
     let always = subst (λ (n : ℕ). IsEventDone g.S.PageStore (event_of n c.args.asked) turn.result.answer (inside g.T.DeadRows self.live.world) (inside g.T.DeadRows turn.new.self.world)) is turn.ensures.event in
     served_done self w None idle seat there turn.result.seat c.take_seat.ensures.taken c.put_seat.ensures.put turn.ensures.session q
@@ -58,9 +64,12 @@ invariant_of-self-2 g c =
     let q = c.running-running.result in
     let e = c.running-running.ensures in
     let job = ap (λ (x : Pending). x.job) (sym e) in
-    let p : PendingCall = call_begun c.args.asked (g.S.PageStore.state self.live.world.store).acts (length (keeper_in self).log) in
-    let long = ap length self.told ∙ length_completed self.history.items ∙ sym (c.len-seen.ensures ∙ self.history.ok.0) in
-    let same : p ≡ pending_call q = (λ i. record { asked = c.args.asked; given = sym c.requires.given i; from = sym c.actions-from.ensures i; seen = long i }) ∙ ap pending_call (sym e) in
+    let handed = g.J.Origin.handed.sets in
+    let rows = rows_asked (inside g.T.DeadRows self.live.world).sets c.args.asked in
+    let named : rows ≡ rows_asked handed c.args.asked = ap rows_in (asked_the_same self.live c.args.asked self.stays) in
+    let p : PendingCall = call_begun c.args.asked rows (g.S.PageStore.state self.live.world.store).acts (length (keeper_in self).log) in
+    let long = ap length self.told ∙ length_completed handed self.history.items ∙ sym (c.len-seen.ensures ∙ self.history.ok.0) in
+    let same : p ≡ pending_call handed q = (λ i. record { asked = c.args.asked; rows = named i; given = sym c.requires.given i; from = sym c.actions-from.ensures i; seen = long i }) ∙ ap (pending_call handed) (sym e) in
     let leaves = leaves_at self w None idle seat there c.if-over.false refl turn.ensures.told in
     let v = c.check-seat.ensures.keeper ∙ self.knows in
     served_on self w None idle seat there turn.result.seat c.take_seat.ensures.taken c.put_seat.ensures.put turn.ensures.session q leaves same

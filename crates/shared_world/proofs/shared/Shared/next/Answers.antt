@@ -54,9 +54,9 @@ invariant_of-self-2 g c =
     let there = c.take_seat.ensures.seat in
     let out = c.next-session in
     let q : Pending = record p { given = c.keep_gift.new.given } in
-    let same : given_more (call_in (view_of seat.pass)) out.result.1 ≡ pending_call q =
+    let same : given_more (call_in (view_of seat.pass)) out.result.1 ≡ pending_call g.J.Origin.handed.sets q =
     ap (λ (x : PendingCall). given_more x out.result.1) (call_in_is self w p here.found seat there)
-    ∙ (λ i. record (pending_call p) { given = (sym (c.keep_gift.ensures.items ∙ given_as_more out.result.1 p.given.items)) i }) in
+    ∙ (λ i. record (pending_call g.J.Origin.handed.sets p) { given = (sym (c.keep_gift.ensures.items ∙ given_as_more out.result.1 p.given.items)) i }) in
     served_on self w (Some p) here.found seat there out.result.0 c.take_seat.ensures.taken c.put_seat.ensures.put out.ensures.session q
     (leaves_at self w (Some p) here.found seat there refl refl out.ensures.told) same (self.booked.running w p here.found)
     (subst (IsRoomOf p.asked) (sym c.keep_gift.ensures.capacity) (self.booked.room w p here.found))
