@@ -13,7 +13,7 @@ use Rattle.session_seats.specs.declared.call.Notice.{Notice}
 use Rattle.session_seats.specs.declared.call.PendingCall.{PendingCall}
 use Rattle.session_seats.specs.declared.seating.SessionView.{SessionView}
 use Rattle.session_seats.specs.Calls.{completed_by}
-use Rattle.session_seats.specs.Seats.{calls_from, calls_by, keeper_with, no_view, seated, keeper_part, seat_part, keeper_opening, seat_opening, when_changed, when_begun, when_given, when_ended, KeeperAgrees, SeatAgrees, ViewAgrees, SitForOne, ViewsAgree, HasBegunCall, HasGivenEntry, HasEndedCall, HasLooked}
+use Rattle.session_seats.specs.Seats.{calls_from, calls_by, registry_with, no_view, seated, registry_part, seat_part, registry_opening, seat_opening, when_changed, when_begun, when_given, when_ended, RegistryAgrees, SeatAgrees, ViewAgrees, SitForOne, ViewsAgree, HasBegunCall, HasGivenEntry, HasEndedCall, HasLooked}
 use Rattle.session_seats.proofs.Rows.{get_front, get_last, get_within, set_else, set_here}
 
 -- a view that is another keeps, or sits, as that does
@@ -95,33 +95,33 @@ other_call w x log n = let h = calls_from_snoc 0 w log x in grind (arith, h, nat
 own_call : (x : CompletedCall) (log : List CompletedCall) → calls_by x.session (log ++ x ∷ []) ≡ calls_by x.session log ++ (length log, x) ∷ []
 own_call x log = let h = calls_from_snoc 0 x.session log x in grind (arith, h, nat_tests)
 
-pub begins : ViewsAgree (keeper_with [] [] ∷ [])
+pub begins : ViewsAgree (registry_with [] [] ∷ [])
 begins = record { desk = 0; log = []; pending = []; each = one; apart = two }
   where
-    one : AllAgree 0 [] [] (keeper_with [] [] ∷ [])
-    one zero v e = subst (ViewAgrees 0 [] [] 0) (some-injective _ _ e) (record { keeper = λ _. record { desk_is = refl; log_is = refl; pending_is = refl }; seat = λ c. absurd (false≢true c) })
+    one : AllAgree 0 [] [] (registry_with [] [] ∷ [])
+    one zero v e = subst (ViewAgrees 0 [] [] 0) (some-injective _ _ e) (record { registry = λ _. record { desk_is = refl; log_is = refl; pending_is = refl }; seat = λ c. absurd (false≢true c) })
     one (suc pass) v e = absurd (some-ne-none v (sym e))
 
-    two : SitForOne (keeper_with [] [] ∷ [])
+    two : SitForOne (registry_with [] [] ∷ [])
     two zero zero u v e f s t same = refl
     two zero (suc j) u v e f s t same = absurd (some-ne-none v (sym f))
     two (suc i) j u v e f s t same = absurd (some-ne-none u (sym e))
 
 -- with another list of what each session runs, and another log, all views fit again
 module _ (views : List SessionView) (h : ViewsAgree views) (pass : ℕ) (v : SessionView) (at : get_elem? views pass ≡ some v) (keeps : v.keeps ≡ true) where
-  keeper : KeeperAgrees h.desk h.log h.pending pass v
-  keeper = (h.each pass v at).keeper keeps
+  registry : RegistryAgrees h.desk h.log h.pending pass v
+  registry = (h.each pass v at).registry keeps
 
   -- no other pass keeps
   none_keeps : (j : ℕ) (u : SessionView) → j ≢ pass → get_elem? views j ≡ some u → u.keeps ≡ true → ⊥
-  none_keeps j u apart e c = apart (((h.each j u e).keeper c).desk_is ∙ sym keeper.desk_is)
+  none_keeps j u apart e c = apart (((h.each j u e).registry c).desk_is ∙ sym registry.desk_is)
 
   -- where no other's seat is touched
   pub refit : (log : List CompletedCall) (pending : List (Option PendingCall)) (w : SessionView)
       → ((j : ℕ) (u : SessionView) → j ≢ pass → get_elem? views j ≡ some u → u.sits ≡ true → SeatAgrees h.log h.pending u → SeatAgrees log pending u)
       → ViewAgrees h.desk log pending pass w → AllAgree h.desk log pending (set views pass w)
   refit log pending w others mine = each_set h.desk log pending views pass w
-      (λ j u apart e. record { keeper = λ c. absurd (none_keeps j u apart e c); seat = λ c. others j u apart e c ((h.each j u e).seat c) })
+      (λ j u apart e. record { registry = λ c. absurd (none_keeps j u apart e c); seat = λ c. others j u apart e c ((h.each j u e).seat c) })
       mine
 
   -- who sits beside it stays the only one of its session
@@ -136,7 +136,7 @@ module _ (views : List SessionView) (h : ViewsAgree views) (pass : ℕ) (v : Ses
     changes_each o = refit h.log (slice_set h.pending v.session (o)) (when_changed v o)
         (λ j u apart e su f. record { call_is = set_else h.pending v.session u.session (o) (another j u apart e su) ∙ f.call_is; calls_are = f.calls_are })
         (record {
-          keeper = λ _. record { desk_is = keeper.desk_is; log_is = keeper.log_is; pending_is = ap (λ l. slice_set l v.session (o)) keeper.pending_is };
+          registry = λ _. record { desk_is = registry.desk_is; log_is = registry.log_is; pending_is = ap (λ l. slice_set l v.session (o)) registry.pending_is };
           seat = λ _. record { call_is = set_here h.pending v.session v.call (o) seat.call_is; calls_are = seat.calls_are };
         })
 
@@ -156,11 +156,11 @@ module _ (views : List SessionView) (h : ViewsAgree views) (pass : ℕ) (v : Ses
           calls_are = f.calls_are ∙ sym (other_call u.session (completed_by v.session notice v.call) h.log (another j u apart e su));
         })
         (record {
-          keeper = λ _. record { desk_is = keeper.desk_is; log_is = ap (λ l. l ++ completed_by v.session notice v.call ∷ []) keeper.log_is; pending_is = ap (λ l. slice_set l v.session None) keeper.pending_is };
+          registry = λ _. record { desk_is = registry.desk_is; log_is = ap (λ l. l ++ completed_by v.session notice v.call ∷ []) registry.log_is; pending_is = ap (λ l. slice_set l v.session None) registry.pending_is };
           seat = λ _. record {
             call_is = set_here h.pending v.session v.call None seat.call_is;
             calls_are = ap (λ (t : List (ℕ × CompletedCall)). t ++ (length v.log, completed_by v.session notice v.call) ∷ []) seat.calls_are
-                ∙ ap (λ (t : List CompletedCall). calls_by v.session h.log ++ (length t, completed_by v.session notice v.call) ∷ []) keeper.log_is ∙ sym (own_call (completed_by v.session notice v.call) h.log);
+                ∙ ap (λ (t : List CompletedCall). calls_by v.session h.log ++ (length t, completed_by v.session notice v.call) ∷ []) registry.log_is ∙ sym (own_call (completed_by v.session notice v.call) h.log);
           };
         })
 
@@ -196,7 +196,7 @@ module _ (slots pass : ℕ) (v : SessionView) (c : List (ℕ × Notice)) (f : �
 pub checks_allows : (slots pass : ℕ) (v : SessionView) (c : List (ℕ × Notice)) (f : ℕ → ℕ) (i : ℕ) (st : Step Notice) → v.keeps ≡ true
     → Allows CellRule slots pass (v, c) i f (HasLooked st (v, c))
 checks_allows slots pass v c f i st kept s h len at small =
-    let k = keeper s.views h pass v at kept in (
+    let k = registry s.views h pass v at kept in (
       v,
       still,
       tt,
@@ -220,21 +220,21 @@ checks_allows slots pass v c f i st kept s h len at small =
 idle_free : (views : List SessionView) (pass : ℕ) (w : SessionView) → w.sits ≡ false → NoneElse views pass w
 idle_free views pass w idle j u apart e su sw same = false≢true (sym idle ∙ sw)
 
--- the seat leaves the keeper
-pub leaves : (pass : ℕ) (v : SessionView) → v.keeps ≡ true → Splits CellRule pass v (keeper_part v) (seat_part v)
+-- the seat leaves the registry
+pub leaves : (pass : ℕ) (v : SessionView) → v.keeps ≡ true → Splits CellRule pass v (registry_part v) (seat_part v)
 leaves pass v keeps s h at =
     let views = s.views in
-    let a = keeper_part v in
+    let a = registry_part v in
     let f = h.each pass v at in
-    let k = f.keeper keeps in
+    let k = f.registry keeps in
     let rest = refit views h pass v at keeps h.log h.pending a (λ j u apart e su s. s)
-    (record { keeper = λ _. record { desk_is = k.desk_is; log_is = k.log_is; pending_is = k.pending_is }; seat = λ c. absurd (false≢true c) }) in
+    (record { registry = λ _. record { desk_is = k.desk_is; log_is = k.log_is; pending_is = k.pending_is }; seat = λ c. absurd (false≢true c) }) in
     record {
       desk = h.desk;
       log = h.log;
       pending = h.pending;
       each = each_snoc h.desk h.log h.pending (set views pass a) (seat_part v) rest
-          (λ j. record { keeper = λ c. absurd (false≢true c); seat = λ c. record { call_is = (f.seat c).call_is; calls_are = (f.seat c).calls_are } });
+          (λ j. record { registry = λ c. absurd (false≢true c); seat = λ c. record { call_is = (f.seat c).call_is; calls_are = (f.seat c).calls_are } });
       apart = apart_snoc (set views pass a) (seat_part v) (apart_set views pass a h.apart (idle_free views pass a refl))
           (λ j u e su sw same. ⊎_elim
           (λ (x : (j ≡ pass) × (a ≡ u)). false≢true (ap (λ (z : SessionView). z.sits) x.1 ∙ su))
@@ -243,22 +243,22 @@ leaves pass v keeps s h at =
     }
 
 -- a seat for one session more
-pub widens : (pass : ℕ) (v : SessionView) → v.keeps ≡ true → Splits CellRule pass v (keeper_opening v) (seat_opening v)
+pub widens : (pass : ℕ) (v : SessionView) → v.keeps ≡ true → Splits CellRule pass v (registry_opening v) (seat_opening v)
 widens pass v keeps s h at =
     let views = s.views in
-    let k = keeper views h pass v at keeps in
-    let a = keeper_opening v in
+    let k = registry views h pass v at keeps in
+    let a = registry_opening v in
     let pending : List (Option PendingCall) = h.pending ++ None ∷ [] in
     let rest = refit views h pass v at keeps h.log pending a
     (λ j u apart e su s. record { call_is = get_front h.pending (None ∷ []) u.session u.call s.call_is; calls_are = s.calls_are })
-    (record { keeper = λ _. record { desk_is = k.desk_is; log_is = k.log_is; pending_is = ap (λ l. l ++ None ∷ []) k.pending_is }; seat = λ c. absurd (false≢true c) }) in
+    (record { registry = λ _. record { desk_is = k.desk_is; log_is = k.log_is; pending_is = ap (λ l. l ++ None ∷ []) k.pending_is }; seat = λ c. absurd (false≢true c) }) in
     record {
       desk = h.desk;
       log = h.log;
       pending = pending;
       each = each_snoc h.desk h.log pending (set views pass a) (seat_opening v) rest
           (λ j. record {
-            keeper = λ c. absurd (false≢true c);
+            registry = λ c. absurd (false≢true c);
             seat = λ _. record {
               call_is = ap (λ (l : List (Option PendingCall)). slice_get pending (length l)) k.pending_is ∙ get_last h.pending None;
               calls_are = ap (λ l. calls_by (length v.pending) l) k.log_is;
@@ -273,7 +273,7 @@ widens pass v keeps s h at =
           (at_set views pass j a u e));
     }
 
--- a seat comes beside the keeper
+-- a seat comes beside the registry
 pub sits_down : (pass : ℕ) (v : SessionView) (other : ℕ) (u : SessionView) → v.keeps ≡ true → Joins CellRule pass v other u (seated v u) no_view
 sits_down pass v other u keeps s h at apart there =
     let views = s.views in
@@ -287,12 +287,12 @@ sits_down pass v other u keeps s h at apart there =
       each = each_set h.desk h.log h.pending (set views pass w) other no_view
           (λ j y _ e. each_set h.desk h.log h.pending views pass w (λ i z _ e'. h.each i z e')
           (record {
-            keeper = λ c.
-                record { desk_is = (f.keeper keeps).desk_is; log_is = (f.keeper keeps).log_is; pending_is = (f.keeper keeps).pending_is };
+            registry = λ c.
+                record { desk_is = (f.registry keeps).desk_is; log_is = (f.registry keeps).log_is; pending_is = (f.registry keeps).pending_is };
             seat =
                 λ c. record { call_is = (g.seat c).call_is; calls_are = (g.seat c).calls_are };
           }) j y e)
-          (record { keeper = λ c. absurd (false≢true c); seat = λ c. absurd (false≢true c) });
+          (record { registry = λ c. absurd (false≢true c); seat = λ c. absurd (false≢true c) });
       apart = two;
     }
   where

@@ -1,6 +1,6 @@
--- What passes outlive the lock with. The keeper's lies under the lock. It knows the log of all calls that are
--- over, and which call each session runs. A seat knows the call that its own session runs, and those of the
--- log that are its session's.
+-- What passes outlive the lock with. The registry's lies under the lock. It knows the log of all calls that
+-- are over, and which call each session runs. A seat knows the call that its own session runs, and those of
+-- the log that are its session's.
 use Rattle.std.specs.Prelude.{◌≡◌, ◌==◌, ◌<◌, ℕ, suc, List, [], ◌∷◌, ◌++◌, length, Option, Some, None, slice_set, slice_get, Bool, true, false, if◌then◌else◌}
 use mathlib.Core.Option.{some}
 use lib.ListN.{get_elem?}
@@ -34,9 +34,9 @@ calls_by session log = calls_from 0 session log
 abbrev pub view_of : CellSeat Notice SessionView → SessionView
 view_of pass = pass.me.0
 
--- the view of a keeper, which sits for no session
-abbrev pub keeper_with : List CompletedCall → List (Option PendingCall) → SessionView
-keeper_with log pending = record { keeps = true; log = log; pending = pending; sits = false; session = 0; call = None; calls = [] }
+-- the view of a registry, which sits for no session
+abbrev pub registry_with : List CompletedCall → List (Option PendingCall) → SessionView
+registry_with log pending = record { keeps = true; log = log; pending = pending; sits = false; session = 0; call = None; calls = [] }
 
 -- the view of a seat: for this session, which runs this call or none, and has had these
 abbrev pub sitting : Bool → ℕ → Option PendingCall → List (ℕ × CompletedCall) → SessionView
@@ -46,20 +46,20 @@ sitting sits session call calls = record { keeps = false; log = []; pending = []
 abbrev pub no_view : SessionView
 no_view = sitting false 0 None []
 
--- the keeper's view with that of a seat beside it
+-- the registry's view with that of a seat beside it
 abbrev pub seated : SessionView → SessionView → SessionView
-seated keeper seat = record seat { keeps = keeper.keeps; log = keeper.log; pending = keeper.pending }
+seated registry seat = record seat { keeps = registry.keeps; log = registry.log; pending = registry.pending }
 
--- the keeper's part of such a view, and the seat's
-abbrev pub keeper_part : SessionView → SessionView
-keeper_part v = record no_view { keeps = v.keeps; log = v.log; pending = v.pending }
+-- the registry's part of such a view, and the seat's
+abbrev pub registry_part : SessionView → SessionView
+registry_part v = record no_view { keeps = v.keeps; log = v.log; pending = v.pending }
 
 abbrev pub seat_part : SessionView → SessionView
 seat_part v = sitting v.sits v.session v.call v.calls
 
--- the keeper's view with one session more, which runs nothing, and the view of that session's seat
-abbrev pub keeper_opening : SessionView → SessionView
-keeper_opening v = record (keeper_part v) { pending = v.pending ++ None ∷ [] }
+-- the registry's view with one session more, which runs nothing, and the view of that session's seat
+abbrev pub registry_opening : SessionView → SessionView
+registry_opening v = record (registry_part v) { pending = v.pending ++ None ∷ [] }
 
 abbrev pub seat_opening : SessionView → SessionView
 seat_opening v = sitting true (length v.pending) None (calls_by (length v.pending) v.log)
@@ -84,8 +84,8 @@ when_ended v notice = record v {
   calls = v.calls ++ (length v.log, completed_by v.session notice v.call) ∷ [];
 }
 
--- a keeper is the pass of this number, and knows this log and which call each session runs
-pub record KeeperAgrees (desk : ℕ) (log : List CompletedCall) (pending : List (Option PendingCall)) (pass : ℕ) (v : SessionView) : Type 0 where
+-- a registry is the pass of this number, and knows this log and which call each session runs
+pub record RegistryAgrees (desk : ℕ) (log : List CompletedCall) (pending : List (Option PendingCall)) (pass : ℕ) (v : SessionView) : Type 0 where
   pub desk_is : pass ≡ desk
   pub log_is : v.log ≡ log
   pub pending_is : v.pending ≡ pending
@@ -97,7 +97,7 @@ pub record SeatAgrees (log : List CompletedCall) (pending : List (Option Pending
 
 -- what a pass knows fits, as far as it keeps or sits
 pub record ViewAgrees (desk : ℕ) (log : List CompletedCall) (pending : List (Option PendingCall)) (pass : ℕ) (v : SessionView) : Type 0 where
-  pub keeper : v.keeps ≡ true → KeeperAgrees desk log pending pass v
+  pub registry : v.keeps ≡ true → RegistryAgrees desk log pending pass v
   pub seat : v.sits ≡ true → SeatAgrees log pending v
 
 -- no two passes sit for one session
@@ -106,7 +106,7 @@ SitForOne views =
     (i j : ℕ) (u v : SessionView) → get_elem? views i ≡ some u → get_elem? views j ≡ some v
     → u.sits ≡ true → v.sits ≡ true → u.session ≡ v.session → i ≡ j
 
--- The rule of the seats: there is one keeper at most, and one log and one list of pending calls that all
+-- The rule of the seats: there is one registry at most, and one log and one list of pending calls that all
 -- views fit.
 pub record ViewsAgree (views : List SessionView) : Type 0 where
   pub desk : ℕ
@@ -129,7 +129,7 @@ HasGivenEntry s v found w = HasHeard when_given s v found w
 abbrev pub HasEndedCall : Step Notice → Me Notice SessionView → ℕ → Me Notice SessionView → Type 0
 HasEndedCall s v found w = HasHeard when_ended s v found w
 
--- a look at the cell tells a keeper that the seat beside it fits
+-- a look at the cell tells a registry that the seat beside it fits
 pub record HasLooked (s : Step Notice) (v : Me Notice SessionView) (found : ℕ) (w : Me Notice SessionView) : Type 0 where
   pub same : w ≡ v
   pub fits : (v.0).sits ≡ true → SeatAgrees (v.0).log (v.0).pending v.0

@@ -1,7 +1,7 @@
 //! What the threads that have sessions of one index know outside of its lock. It knows no index and no lock.
 //!
 //! Each session has a seat, which says which call it runs, and which calls it has had, each with what it was
-//! asked, answered and gave. The keeper, which lies beside the index, says the whole: the log of all calls
+//! asked, answered and gave. The registry, which lies beside the index, says the whole: the log of all calls
 //! that are over, and which ones run. All of it is for proofs alone: it takes no memory, however long the log
 //! is. No function waits.
 #![tactic(auto)]

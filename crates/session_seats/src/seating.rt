@@ -1,7 +1,7 @@
 //! The cell that ties what the sessions know to what lies under the lock.
 
 ghost use Rattle.std.specs.Prelude.{◌≡◌, [], IfSome};
-ghost use Rattle.session_seats.specs.Seats.{keeper_with, view_of};
+ghost use Rattle.session_seats.specs.Seats.{registry_with, view_of};
 
 use crate::call::{CompletedCall, Notice, PendingCall};
 use atomic_table::{Join, Play, Seat, Split, Table, TableRule};
@@ -9,7 +9,7 @@ use std::alloc::Global;
 use std::collections::LinkedList;
 use std::marker::{Brand, PhantomData};
 
-/// What a pass of the cell knows. A keeper: the log of all calls that are over, and which call each session
+/// What a pass of the cell knows. A registry: the log of all calls that are over, and which call each session
 /// runs. A seat: its session, which call that runs, and those of the log that are its own, with their places.
 /// No value of it is made.
 pub struct SessionView {
@@ -27,11 +27,11 @@ pub struct SessionRule;
 
 impl TableRule<Notice, SessionView, ()> for SessionRule {
     ghost use Rattle.std.specs.Prelude.{[]};
-    ghost use Rattle.session_seats.specs.Seats.{keeper_with, ViewsAgree};
+    ghost use Rattle.session_seats.specs.Seats.{registry_with, ViewsAgree};
 
     ghost holds = { λ key s. ViewsAgree s.views };
 
-    ghost first = { λ key. keeper_with [] [] };
+    ghost first = { λ key. registry_with [] [] };
 }
 
 /// Which rows a call that begins is to remove. Who begins it picks them.
@@ -87,13 +87,13 @@ impl Play<Notice, SessionView> for Looks {
     ghost then = { HasLooked };
 }
 
-/// A seat comes beside the keeper, and leaves it.
+/// A seat comes beside the registry, and leaves it.
 pub struct Sits;
 
 impl Split<SessionView> for Sits {
-    ghost use Rattle.session_seats.specs.Seats.{keeper_part, seat_part};
+    ghost use Rattle.session_seats.specs.Seats.{registry_part, seat_part};
 
-    ghost left = { keeper_part };
+    ghost left = { registry_part };
 
     ghost right = { seat_part };
 }
@@ -110,9 +110,9 @@ impl Join<SessionView> for Sits {
 pub struct Opens;
 
 impl Split<SessionView> for Opens {
-    ghost use Rattle.session_seats.specs.Seats.{keeper_opening, seat_opening};
+    ghost use Rattle.session_seats.specs.Seats.{registry_opening, seat_opening};
 
-    ghost left = { keeper_opening };
+    ghost left = { registry_opening };
 
     ghost right = { seat_opening };
 }
@@ -120,15 +120,15 @@ impl Split<SessionView> for Opens {
 /// The cell of the seats.
 pub type SessionCell = Table<Notice, SessionView, (), SessionRule, Global>;
 
-/// A pass of the cell: a session's, or the keeper's.
+/// A pass of the cell: a session's, or the registry's.
 pub type SessionPass = Seat<Notice, SessionView>;
 
-/// A cell of seats, with the keeper's pass, which knows of no call and no session. None if there is no memory
-/// for it.
+/// A cell of seats, with the registry's pass, which knows of no call and no session. None if there is no
+/// memory for it.
 pub fn make_cell(alloc: Global) -> Option<(SessionCell, SessionPass)>
     ensures cell { IfSome result (λ c. c.1.table_id ≡ c.0.shared.table_id) }
     ensures word { IfSome result (λ c. c.0.shared.table_id.words ≡ 1) }
-    ensures keeper { IfSome result (λ c. view_of c.1 ≡ keeper_with [] []) }
+    ensures registry { IfSome result (λ c. view_of c.1 ≡ registry_with [] []) }
 {
     SessionCell::of_words(alloc, &[0], &()).ok()
 }

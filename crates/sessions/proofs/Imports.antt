@@ -18,7 +18,7 @@ pub use Rattle.worker_seats.proofs.Counting.{last_or, sum_over_snoc}
 pub use Rattle.worker_seats.proofs.Queueing.{forks_of, is_else, is_here, nat_cases, under, weigh-append}
 pub use Rattle.worker_seats.proofs.Rows.{get_snoc, get_there, get_within, set_else, set_here, some_snoc}
 pub use Rattle.worker_seats.specs.Queue.{at_alone, below, jobs_in, sum_over, times, weigh}
-pub use Rattle.worker_seats.specs.Seats.{keeper_of, known_by}
+pub use Rattle.worker_seats.specs.Seats.{registry_of, known_by}
 pub use Rattle.worker_seats.specs.declared.seating.SeatView.{SeatView}
 pub use Rattle.shared_world.specs.Ended.{HasRun, jobs_of_records}
 pub use Rattle.sessions.specs.Finishing.{HaveTold, IsFinished, IsReceiptFor, jobs_by, receipt_of, records_of}

@@ -8,8 +8,8 @@ ghost use Rattle.index_model.specs.Calls.{Call};
 ghost use Rattle.index_model.specs.declared.entry.Entry.{Entry as OneEntry};
 ghost use Rattle.page_action.specs.States.{Continues, IsLater};
 ghost use Rattle.worker_seats.specs.Queue.{below, queue_view, times, weigh};
-ghost use Rattle.session_seats.specs.Seats.{IsSessionCell, keeper_with, view_of};
-ghost use Rattle.worker_seats.specs.Seats.{IsCellOf, keeper_of, known_by};
+ghost use Rattle.session_seats.specs.Seats.{IsSessionCell, registry_with, view_of};
+ghost use Rattle.worker_seats.specs.Seats.{IsCellOf, registry_of, known_by};
 ghost use Rattle.world.specs.Worlds.{WorldFits, WorldKeeps, inside};
 ghost use Rattle.shared_world.specs.Acted.{HasActed};
 ghost use Rattle.shared_world.specs.Booked.{AreBooked};
@@ -117,9 +117,9 @@ fn run_named<
     alloc: Global,
     queue: &JobQueue<JobTicket<K>>,
     cell: SeatCell,
-    keeper: SeatPass,
+    registry: SeatPass,
     session_cell: SessionCell,
-    session_keeper: SessionPass,
+    session_registry: SessionPass,
     pass: QueuePass<JobTicket<K>>,
     blank: Blank,
     world: World<S, T>,
@@ -144,10 +144,10 @@ fn run_named<
         → J.kept_then contents history calls
         ↔ WorldKeeps S.PageStore T.DeadRows world contents history calls }
     requires followed { (first : S) → J.followed first ↔ S.follows first world.store }
-    requires keeper { keeper.table_id ≡ cell.shared.table_id }
-    requires knows { known_by keeper ≡ keeper_of [] [] }
-    requires session_keeper { session_keeper.table_id ≡ session_cell.shared.table_id }
-    requires session_knows { view_of session_keeper ≡ keeper_with [] [] }
+    requires registry { registry.table_id ≡ cell.shared.table_id }
+    requires knows { known_by registry ≡ registry_of [] [] }
+    requires session_registry { session_registry.table_id ≡ session_cell.shared.table_id }
+    requires session_knows { view_of session_registry ≡ registry_with [] [] }
     requires pass { IsPassOf queue.now pass }
     requires whole { view pass ≡ queue_view 1024 (length jobs.now) [] }
     requires limits { IsWithinLimits (length world.calls.slots.items) jobs.now workers }
@@ -159,8 +159,8 @@ fn run_named<
     ensures told { IfOk result (λ r.
         HaveTold G.Hand.told workers r.1.items r.0.history.items) }
 {
-    let desk = Desk::new(cell, keeper);
-    let sessions = SessionDesk::new(session_cell, session_keeper);
+    let desk = Desk::new(cell, registry);
+    let sessions = SessionDesk::new(session_cell, session_registry);
     let Some(room) = make_room::<J, K, G::Hand>(
         alloc,
         desk,
@@ -214,10 +214,10 @@ fn run_listed<
     let Some((queue, pass)) = queue_of::<K, R>(rt, alloc, jobs) else {
         return Err(no_memory(world));
     };
-    let Some((cell, keeper)) = make_cell(alloc) else {
+    let Some((cell, registry)) = make_cell(alloc) else {
         return Err(no_memory(world));
     };
-    let Some((session_cell, session_keeper)) = session_seats::make_cell(alloc) else {
+    let Some((session_cell, session_registry)) = session_seats::make_cell(alloc) else {
         return Err(no_memory(world));
     };
     let blank = Blank::new(65);
@@ -226,9 +226,9 @@ fn run_listed<
         alloc,
         &queue,
         cell,
-        keeper,
+        registry,
         session_cell,
-        session_keeper,
+        session_registry,
         pass,
         blank,
         world,

@@ -3,8 +3,8 @@
 ghost use Rattle.std.specs.Prelude.{◌≡◌, ◌≤◌, IfSome, [], length, vec_capacity};
 ghost use Rattle.crossbeam_queue.specs.Passes.{view};
 ghost use Rattle.worker_seats.specs.Queue.{queue_view};
-ghost use Rattle.session_seats.specs.Seats.{keeper_with, view_of};
-ghost use Rattle.worker_seats.specs.Seats.{keeper_of, known_by};
+ghost use Rattle.session_seats.specs.Seats.{registry_with, view_of};
+ghost use Rattle.worker_seats.specs.Seats.{registry_of, known_by};
 
 use crate::ticket::{JobList, JobTicket};
 use session_seats::{SessionDesk, SessionGroup, SessionSeat};
@@ -28,7 +28,7 @@ pub struct RunRoom<J: Jobs + SessionGroup, K: JobList, H: Telling> {
     pub seats: Vec<Seat<J>>,
     pub sessions: SessionDesk<J>,
     pub session_seats: Vec<Option<SessionSeat<J>>>,
-    pub ghost keeper_is: { known_by desk.keeper ≡ keeper_of [] [] },
+    pub ghost registry_is: { known_by desk.registry ≡ registry_of [] [] },
     pub ghost of_queue: { pass.table_id ≡ J.queue },
     pub ghost pass_rests: { pass.me.1 ≡ [] },
     pub ghost pass_is: { view pass ≡ queue_view 1024 (length J.jobs) [] },
@@ -40,7 +40,7 @@ pub struct RunRoom<J: Jobs + SessionGroup, K: JobList, H: Telling> {
     pub ghost no_worker: { returned.items ≡ [] },
     pub ghost no_hand: { hands.items ≡ [] },
     pub ghost no_seat: { seats.items ≡ [] },
-    pub ghost sessions_are: { view_of sessions.keeper ≡ keeper_with [] [] },
+    pub ghost sessions_are: { view_of sessions.registry ≡ registry_with [] [] },
     pub ghost no_session: { session_seats.items ≡ [] },
     pub ghost for_records: { length J.jobs ≤ vec_capacity history },
     pub ghost for_pending: { J.workers ≤ vec_capacity pending },
@@ -60,8 +60,8 @@ pub fn make_room<J: Jobs + SessionGroup, K: JobList, H: Telling + Drop>(
     jobs: usize,
     workers: u32,
 ) -> Option<RunRoom<J, K, H>>
-    requires keeper { known_by desk.keeper ≡ keeper_of [] [] }
-    requires sessions { view_of sessions.keeper ≡ keeper_with [] [] }
+    requires registry { known_by desk.registry ≡ registry_of [] [] }
+    requires sessions { view_of sessions.registry ≡ registry_with [] [] }
     requires queue { pass.table_id ≡ J.queue }
     requires pass { pass.me.1 ≡ [] }
     requires whole { view pass ≡ queue_view 1024 (length J.jobs) [] }

@@ -4,7 +4,7 @@ ghost use Rattle.std.specs.Prelude.{◌≡◌, ◌≤◌, ◌<◌, ◌+◌, [], 
 ghost use Rattle.crossbeam_queue.specs.Passes.{view, IsPassOf};
 ghost use Rattle.session_calls.specs.Slots.{has_call};
 ghost use Rattle.worker_seats.specs.Queue.{KnowsAll, jobs_in, sum_over, weigh};
-ghost use Rattle.worker_seats.specs.Seats.{keeper_of, known_by};
+ghost use Rattle.worker_seats.specs.Seats.{registry_of, known_by};
 ghost use Rattle.world.specs.Worlds.{inside};
 ghost use Rattle.shared_world.specs.Ended.{HasRun};
 ghost use Rattle.shared_world.specs.Handed.{IsAsHanded};
@@ -76,15 +76,15 @@ fn start_all<
     last: u32,
 ) -> bool
     requires few { last < 64 }
-    requires keeper { known_by desk.old.keeper ≡ keeper_of [] [] }
+    requires registry { known_by desk.old.registry ≡ registry_of [] [] }
     requires pass { IsPassOf run.now.queue.now pass.old }
     requires whole { (view pass.old).parts ≡ 1024 }
     requires popped { (view pass.old).popped ≡ [] }
     requires all { (all.old.parts ≡ 65) × (all.old.amount ≡ 0) }
     requires pending { (pending.old.items ≡ []) × (last < vec_capacity pending.old) }
     requires handles { (handles.old.items ≡ []) × (last < vec_capacity handles.old) }
-    ensures keeper { result ≡ true
-        → known_by desk.new.keeper ≡ keeper_of [] (jobs_of pending.new.items) }
+    ensures registry { result ≡ true
+        → known_by desk.new.registry ≡ registry_of [] (jobs_of pending.new.items) }
     ensures pass { result ≡ true → IsPassOf run.now.queue.now pass.new }
     ensures whole { result ≡ true → (view pass.new).parts + last ≡ 1024 }
     ensures pushed { result ≡ true → (view pass.new).pushed ≡ (view pass.old).pushed }
@@ -252,8 +252,7 @@ pub fn run_threads<
         put(run, RunSlot::Closed);
         return Err(world);
     }
-    let share = all.split_off(1, 0);
-    let own = open(&mut desk, share, last);
+    let own = open(&mut desk, all.split_off(1, 0), last);
     pending.push_reserved(None);
     let shared = first(world, history, pending, session_seats, book, desk, sessions);
     let threads = all_started::<J, K, G::Hand>(&handles);

@@ -29,8 +29,8 @@ pub struct ServedIndex<S, T, O> {
 
 // Each of these sessions has had just the calls that the log has of it.
 fn check_all<J: SessionGroup>(desk: &mut SessionDesk<J>, sessions: Vec<SharedSession<J>>)
-    ensures keeper { view_of desk.new.keeper ≡ view_of desk.old.keeper }
-    ensures own { AreOfLog (view_of desk.old.keeper).log (all_told sessions.items) }
+    ensures registry { view_of desk.new.registry ≡ view_of desk.old.registry }
+    ensures own { AreOfLog (view_of desk.old.registry).log (all_told sessions.items) }
 {
     for session in sessions {
         let SharedSession { seat, .. } = session;

@@ -4,7 +4,7 @@ ghost use Rattle.std.specs.Prelude.{◌≡◌, ◌≤◌, ◌<◌, ◌↔◌, []
 ghost use Rattle.index_model.specs.Actions.{Action};
 ghost use Rattle.index_model.specs.Calls.{Call};
 ghost use Rattle.index_model.specs.declared.entry.Entry.{Entry as OneEntry};
-ghost use Rattle.session_seats.specs.Seats.{IsSessionCell, keeper_with, view_of};
+ghost use Rattle.session_seats.specs.Seats.{IsSessionCell, registry_with, view_of};
 ghost use Rattle.world.specs.Worlds.{WorldFits, WorldKeeps, inside};
 ghost use Rattle.shared_world.specs.Handed.{handed_of};
 ghost use Rattle.shared_world.specs.Standing.{AreIdle};
@@ -54,14 +54,14 @@ fn serve_named<
     rt: &R,
     alloc: Global,
     cell: SessionCell,
-    keeper: SessionPass,
+    registry: SessionPass,
     world: World<S, T>,
     sessions: u32,
     client: &C,
 ) -> Result<ServedIndex<S, T, C::Out>, NotServed<S, T>>
     requires cell { IsSessionCell J.sessions cell.shared.table_id }
-    requires keeper { keeper.table_id ≡ cell.shared.table_id }
-    requires knows { view_of keeper ≡ keeper_with [] [] }
+    requires registry { registry.table_id ≡ cell.shared.table_id }
+    requires knows { view_of registry ≡ registry_with [] [] }
     requires handed { J.handed ≡ handed_of S.PageStore T.DeadRows (Some 0) world }
     requires stood { (contents : OneEntry → Bool) (history : List Action) (calls : List Call)
         → J.stood contents history calls
@@ -93,7 +93,7 @@ fn serve_named<
     let Ok(outs) = Vec::with_capacity(alloc, sessions as usize) else {
         return Err(no_memory(world));
     };
-    let mut desk = SessionDesk::new(cell, keeper);
+    let mut desk = SessionDesk::new(cell, registry);
     let (first, rest) = seat_all(&mut desk, room, sessions);
     let live = Live::new(world, desk);
     let (live, seats, outs) = run_all::<S, T, J, C, R>(
@@ -162,8 +162,8 @@ pub fn serve<
     if let Some(fault) = refusal(&world, sessions) {
         return Err(NotServed { fault, world });
     }
-    let Some((cell, keeper)) = make_cell(alloc) else {
+    let Some((cell, registry)) = make_cell(alloc) else {
         return Err(no_memory(world));
     };
-    serve_named::<S, T, Brand, C, R>(rt, alloc, cell, keeper, world, sessions, client)
+    serve_named::<S, T, Brand, C, R>(rt, alloc, cell, registry, world, sessions, client)
 }

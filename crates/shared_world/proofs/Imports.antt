@@ -62,11 +62,11 @@ pub use Rattle.std.proofs.lemmas.Option.{slice_get_read}
 pub use Rattle.std.specs.declared.sync.ledger.Ledger.{Ghosts as LedgerGhosts}
 pub use Rattle.worker_seats.proofs.Counting.{noted_within}
 pub use Rattle.worker_seats.specs.Queue.{below, jobs_in, sum_below, weigh}
-pub use Rattle.worker_seats.specs.Seats.{keeper_of, known_by, notes_by}
+pub use Rattle.worker_seats.specs.Seats.{registry_of, known_by, notes_by}
 pub use Rattle.worker_seats.specs.declared.run.Run.{Ghosts as RunGhosts}
 pub use Rattle.worker_seats.specs.declared.seating.SeatView.{SeatView}
 pub use Rattle.session_seats.specs.Calls.{empty_call}
-pub use Rattle.session_seats.specs.Seats.{keeper_with, view_of}
+pub use Rattle.session_seats.specs.Seats.{registry_with, view_of}
 pub use Rattle.session_seats.specs.declared.seat.SessionSeat.{SessionSeat}
 pub use Rattle.session_seats.specs.declared.seating.SessionView.{SessionView}
 pub use Rattle.shared_world.specs.Booked.{AreBooked}

@@ -1,7 +1,7 @@
--- What the keepers' views have of the records and of the jobs that run.
+-- What the registries' views have of the records and of the jobs that run.
 use Rattle.std.proofs.Common.{◌≡◌, ◌≢◌, ℕ, zero, suc, ◌<◌, List, [], ◌∷◌, ◌++◌, length, Option, Some, None, slice_get, slice_set, vec_capacity, refl, sym, ap, ◌∙◌, subst, ⊎_elim, arith}
 use Rattle.session_calls.specs.TheoremCalls.{DeadSets}
-use Rattle.shared_world.proofs.Imports.{Ended, SeatView, keeper_of, Job, PendingCall, Record, Pending, AreBooked, IsRoomOf, ScanIsFull, note_of, notes_of, job_of, jobs_of, completed_call, completed_calls, pending_call_of, pending_calls, get_snoc, set_cases}
+use Rattle.shared_world.proofs.Imports.{Ended, SeatView, registry_of, Job, PendingCall, Record, Pending, AreBooked, IsRoomOf, ScanIsFull, note_of, notes_of, job_of, jobs_of, completed_call, completed_calls, pending_call_of, pending_calls, get_snoc, set_cases}
 use Rattle.shared_world.proofs.Noting.{some_same}
 
 pub none_there : (pending : List (Option Pending)) (s : ℕ) → slice_get (jobs_of pending) s ≡ Some None → slice_get pending s ≡ Some None
@@ -35,7 +35,7 @@ length_notes [] = refl
 length_notes (x ∷ xs) = ap suc (length_notes xs)
 
 -- what a seat knows of its session
-pub seat_runs : (v : SeatView) (s : ℕ) (log : List (ℕ × ℕ)) (pending : List (Option Pending)) (o t : Option ℕ) → v ≡ keeper_of log (jobs_of pending)
+pub seat_runs : (v : SeatView) (s : ℕ) (log : List (ℕ × ℕ)) (pending : List (Option Pending)) (o t : Option ℕ) → v ≡ registry_of log (jobs_of pending)
     → slice_get v.running s ≡ Some o → o ≡ t → slice_get (jobs_of pending) s ≡ Some t
 seat_runs v s log pending o t knows at is = ap (λ (x : SeatView). slice_get x.running s) (sym knows) ∙ at ∙ ap Some is
 

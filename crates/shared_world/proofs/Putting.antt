@@ -39,10 +39,10 @@ module _ {S T J : Type 0} {g : Ghosts S} {rows : SetGhosts T} {past : OriginOnGh
   v = inside rows world
 
   abbrev pending : List (Option PendingCall)
-  pending = (view_of self.desk.keeper).pending
+  pending = (view_of self.desk.registry).pending
 
   abbrev log : List CompletedCall
-  log = (view_of self.desk.keeper).log
+  log = (view_of self.desk.registry).log
 
   slots : v.slots ≡ w.slots
   slots = ap (λ c. c.slots.items) calls
@@ -88,7 +88,7 @@ module _ {S T J : Type 0} {g : Ghosts S} {rows : SetGhosts T} {past : OriginOnGh
   }
 
   -- all is in order
-  pub put_in_order : IsInOrder self world (view_of self.desk.keeper)
+  pub put_in_order : IsInOrder self world (view_of self.desk.registry)
   put_in_order = record {
     kept = ∥∥₁_map self.kept (λ all honest contents acts old so.
         fitting contents acts old (j.kept_then contents acts old) (all (subst (λ (x : S). (g.backing x).honest ≡ true) store honest) contents acts old so));

@@ -2,7 +2,7 @@
 -- event of the worker's session.
 use Rattle.std.proofs.Common.{◌≡◌, ◌≢◌, ◌<◌, ◌≤◌, ◌+◌, ◌++◌, ◌∷◌, [], ℕ, Bool, true, false, unwrap_or, List, length, Option, Some, None, slice_get, slice_set, get_or, vec_len, vec_capacity, refl, sym, ap, ◌∙◌, subst, inr, ⊎_elim, arith, length-set}
 use Rattle.session_calls.specs.TheoremCalls.{DeadSets}
-use Rattle.shared_world.proofs.Imports.{slice_get_read, SetGhosts, Ghosts, Answer, Ended, keeper_of, known_by, LedgerGhosts, RunGhosts, SeatView, JobGhosts, OriginGhosts, OriginOnGhosts, GroupGhosts, nat_cases, get_within, set_here, set_else}
+use Rattle.shared_world.proofs.Imports.{slice_get_read, SetGhosts, Ghosts, Answer, Ended, registry_of, known_by, LedgerGhosts, RunGhosts, SeatView, JobGhosts, OriginGhosts, OriginOnGhosts, GroupGhosts, nat_cases, get_within, set_here, set_else}
 use Rattle.shared_world.proofs.Imports.{Job, Record, Pending, Shared, PendingCall, SessionSeat, SessionView, view_of, completed_of, completed_calls, pending_call, pending_call_of, pending_calls}
 use Rattle.shared_world.proofs.Imports.{AreBooked, AreSeated, HoldsSeat, IsSeatAt, IsBelowRoom, IsFullScan, IsRoomOf, MayBeLeft, Scan, ScanIsFull, HasRoomLeft, LeavesCall, RunsItsCall, call_in, empty_call, record_of, notes_of, jobs_of, TurnMeans, HasNotedAt}
 use Rattle.shared_world.proofs.Noting.{some_same, set_same, set_twice}
@@ -14,9 +14,9 @@ holds sets s o (Some (Some v)) h = tt
 holds sets s o x h = absurd h
 
 module _ {S T J : Type 0} {g : Ghosts S} {rows : SetGhosts T} {j : JobGhosts J} {run : RunGhosts J} {ledger : LedgerGhosts J} {past : OriginOnGhosts J S} {origin : OriginGhosts J} {group : GroupGhosts J} (self : Shared S T J g rows j run ledger past origin group) where
-  -- what the keeper of the sessions' seats knows
-  abbrev pub keeper_in : SessionView
-  keeper_in = view_of self.live.desk.keeper
+  -- what the registry of the sessions' seats knows
+  abbrev pub registry_in : SessionView
+  registry_in = view_of self.live.desk.registry
 
   -- all that is to be so as the lock is released
   abbrev pub IsServed : List (Option Pending) → List Record → List (Option (SessionSeat J group)) → SessionView → ℕ → ℕ → ℕ → SeatView → Type 0
@@ -29,13 +29,13 @@ module _ {S T J : Type 0} {g : Ghosts S} {rows : SetGhosts T} {j : JobGhosts J} 
     workers : vec_len self.pending ≡ j.workers;
     enough : length j.jobs ≤ capacity;
     counted : total ≡ count;
-    knows : view ≡ keeper_of (notes_of records) (jobs_of pending);
+    knows : view ≡ registry_of (notes_of records) (jobs_of pending);
   }
 
   -- it is so if nothing has changed
-  pub served_same : {pending : List (Option Pending)} {view : SeatView} → pending ≡ self.pending.items → view ≡ known_by self.desk.keeper
-      → IsServed pending self.history.items self.seats.items keeper_in (vec_len self.history) (vec_capacity self.history) self.book.total view
-  served_same {pending} {view} same knows = subst (λ (l : List (Option Pending)). IsServed l self.history.items self.seats.items keeper_in (vec_len self.history) (vec_capacity self.history) self.book.total view) (sym same) (record {
+  pub served_same : {pending : List (Option Pending)} {view : SeatView} → pending ≡ self.pending.items → view ≡ known_by self.desk.registry
+      → IsServed pending self.history.items self.seats.items registry_in (vec_len self.history) (vec_capacity self.history) self.book.total view
+  served_same {pending} {view} same knows = subst (λ (l : List (Option Pending)). IsServed l self.history.items self.seats.items registry_in (vec_len self.history) (vec_capacity self.history) self.book.total view) (sym same) (record {
     stays = self.stays;
     told = self.told;
     runs = self.runs;
@@ -55,30 +55,30 @@ module _ {S T J : Type 0} {g : Ghosts S} {rows : SetGhosts T} {j : JobGhosts J} 
       pub inside : w < vec_len self.pending
 
     -- it runs what its seat tells
-    pub runs_at : {job : ℕ} {o : Option ℕ} → slice_get (known_by self.desk.keeper).running w ≡ Some o → o ≡ Some job → (p : Pending) × RunsJobAt job p
+    pub runs_at : {job : ℕ} {o : Option ℕ} → slice_get (known_by self.desk.registry).running w ≡ Some o → o ≡ Some job → (p : Pending) × RunsJobAt job p
     runs_at {job} {o} at is =
-        let known = seat_runs (known_by self.desk.keeper) w (notes_of self.history.items) self.pending.items o (Some job) self.knows at is in
+        let known = seat_runs (known_by self.desk.registry) w (notes_of self.history.items) self.pending.items o (Some job) self.knows at is in
         let inside = within self.pending.items w (Some job) known in
         let p = some_there self.pending.items w job known in
         (p.0, record { found = p.1; job_is = p.2; inside = omega (arith, inside, self.pending.ok.0) })
 
     -- it runs nothing, if its seat tells so
-    pub idle_at : {o : Option ℕ} → slice_get (known_by self.desk.keeper).running w ≡ Some o → o ≡ None → slice_get self.pending.items w ≡ Some None
-    idle_at {o} at is = none_there self.pending.items w (seat_runs (known_by self.desk.keeper) w (notes_of self.history.items) self.pending.items o None self.knows at is)
+    pub idle_at : {o : Option ℕ} → slice_get (known_by self.desk.registry).running w ≡ Some o → o ≡ None → slice_get self.pending.items w ≡ Some None
+    idle_at {o} at is = none_there self.pending.items w (seat_runs (known_by self.desk.registry) w (notes_of self.history.items) self.pending.items o None self.knows at is)
 
     -- what is read at the worker's place is the job that runs
     pub read_here : {job : ℕ} {p : Pending} → RunsJobAt job p → (x : Option Pending) → x ≡ get_or self.pending.items w x → x ≡ Some p
     read_here here x value = some_same (sym (slice_get_read self.pending.items self.pending.len w x self.pending.ok.0 here.inside value) ∙ here.found)
 
     -- ... and so is what is taken out there
-    pub taken_out : {job : ℕ} {o : Option ℕ} {x y : Option Pending} {p : Pending} → slice_get (known_by self.desk.keeper).running w ≡ Some o → o ≡ Some job
+    pub taken_out : {job : ℕ} {o : Option ℕ} {x y : Option Pending} {p : Pending} → slice_get (known_by self.desk.registry).running w ≡ Some o → o ≡ Some job
         → x ≡ get_or self.pending.items w x → y ≡ x → y ≡ Some p → RunsJobAt job p
     taken_out {job} {o} {x} at is value took some =
         let q = runs_at at is in
         subst (RunsJobAt job) (some_same (sym (took ∙ read_here q.1 x value) ∙ some)) q.1
 
     -- ... so that something is
-    pub some_taken : {job : ℕ} {o : Option ℕ} {x y : Option Pending} → slice_get (known_by self.desk.keeper).running w ≡ Some o → o ≡ Some job
+    pub some_taken : {job : ℕ} {o : Option ℕ} {x y : Option Pending} → slice_get (known_by self.desk.registry).running w ≡ Some o → o ≡ Some job
         → x ≡ get_or self.pending.items w x → y ≡ x → ((p : Pending) → y ≡ Some p → ⊥) → ⊥
     some_taken {job} {o} {x} at is value took none =
         let q = runs_at at is in
@@ -97,7 +97,7 @@ module _ {S T J : Type 0} {g : Ghosts S} {rows : SetGhosts T} {j : JobGhosts J} 
     }
 
     -- ... and the note of its seat
-    pub seat_noted : {job : ℕ} {p : Pending} → RunsJobAt job p → {mid before now after : SeatView} {place : ℕ} → mid ≡ known_by self.desk.keeper → now ≡ before → place ≡ vec_len self.history
+    pub seat_noted : {job : ℕ} {p : Pending} → RunsJobAt job p → {mid before now after : SeatView} {place : ℕ} → mid ≡ known_by self.desk.registry → now ≡ before → place ≡ vec_len self.history
         → after.job ≡ None → after.notes ≡ now.notes ++ (length mid.log, p.job) ∷ [] → HasNotedAt job place before after
     seat_noted here knows view is rests notes =
         let place = ap (λ (v : SeatView). length v.log) (knows ∙ self.knows) ∙ length_notes self.history.items ∙ sym (is ∙ self.history.ok.0) in
@@ -123,9 +123,9 @@ module _ {S T J : Type 0} {g : Ghosts S} {rows : SetGhosts T} {j : JobGhosts J} 
 
         -- an event of its call is one of the worker's session
         pub leaves_at : {over wanted : Bool} {p : PendingCall} {answer : Answer} {to until : ℕ} {k : SessionView} {after : SessionView} → over ≡ wanted → to ≡ until
-            → LeavesCall seat.session over p answer to keeper_in k (view_of seat.pass) after → LeavesCall w wanted p answer until keeper_in k (view_of seat.pass) after
+            → LeavesCall seat.session over p answer to registry_in k (view_of seat.pass) after → LeavesCall w wanted p answer until registry_in k (view_of seat.pass) after
         leaves_at {over} {wanted} {p} {answer} {to} {until} {k} {after} ends then leaves =
-            subst (λ (x : ℕ × Bool × ℕ). LeavesCall x.0 x.1 p answer x.2 keeper_in k (view_of seat.pass) after) (λ i. (session_is i, ends i, then i)) leaves
+            subst (λ (x : ℕ × Bool × ℕ). LeavesCall x.0 x.1 p answer x.2 registry_in k (view_of seat.pass) after) (λ i. (session_is i, ends i, then i)) leaves
 
         -- there is a place for it once it was taken out
         pub place_within : {seats : List (Option (SessionSeat J group))} → seats ≡ slice_set self.seats.items w None → w < length seats
@@ -152,8 +152,8 @@ module _ {S T J : Type 0} {g : Ghosts S} {rows : SetGhosts T} {j : JobGhosts J} 
         module _ (back : SessionSeat J group) {seats seats' : List (Option (SessionSeat J group))} (taken : seats ≡ slice_set self.seats.items w None) (put : seats' ≡ slice_set seats w (Some back)) (same : back.session ≡ seat.session)
             {k : SessionView} {p : PendingCall} {answer : Answer} {to : ℕ} where
           -- it is so if the job runs on
-          pub served_on : (q : Pending) → LeavesCall w false p answer to keeper_in k (view_of seat.pass) (view_of back.pass) → p ≡ pending_call origin.handed.sets q → slice_get j.jobs q.job ≡ Some q.asked → IsRoomOf q.asked (vec_capacity q.given)
-              → {pending : List (Option Pending)} {view : SeatView} → pending ≡ slice_set self.pending.items w (Some q) → view ≡ keeper_of (notes_of self.history.items) (slice_set (jobs_of self.pending.items) w (Some q.job))
+          pub served_on : (q : Pending) → LeavesCall w false p answer to registry_in k (view_of seat.pass) (view_of back.pass) → p ≡ pending_call origin.handed.sets q → slice_get j.jobs q.job ≡ Some q.asked → IsRoomOf q.asked (vec_capacity q.given)
+              → {pending : List (Option Pending)} {view : SeatView} → pending ≡ slice_set self.pending.items w (Some q) → view ≡ registry_of (notes_of self.history.items) (slice_set (jobs_of self.pending.items) w (Some q.job))
               → IsServed pending self.history.items seats' k (vec_len self.history) (vec_capacity self.history) self.book.total view
           served_on q leaves is job room {pending} {view} pending_is knows = subst (λ (l : List (Option Pending)). IsServed l self.history.items seats' k (vec_len self.history) (vec_capacity self.history) self.book.total view) (sym pending_is) (record {
             stays = self.stays;
@@ -164,14 +164,14 @@ module _ {S T J : Type 0} {g : Ghosts S} {rows : SetGhosts T} {j : JobGhosts J} 
             workers = self.workers;
             enough = self.enough;
             counted = self.counted;
-            knows = knows ∙ ap (keeper_of (notes_of self.history.items)) (sym (jobs_of_set self.pending.items w (Some q)));
+            knows = knows ∙ ap (registry_of (notes_of self.history.items)) (sym (jobs_of_set self.pending.items w (Some q)));
           })
 
           -- ... or is done, and has its record
-          pub served_done : (q : Pending) → LeavesCall w true p answer to keeper_in k (view_of seat.pass) (view_of back.pass) → p ≡ pending_call origin.handed.sets q → slice_get j.jobs q.job ≡ Some q.asked → (answer ≡ Ended → ScanIsFull q.asked q.given.items)
+          pub served_done : (q : Pending) → LeavesCall w true p answer to registry_in k (view_of seat.pass) (view_of back.pass) → p ≡ pending_call origin.handed.sets q → slice_get j.jobs q.job ≡ Some q.asked → (answer ≡ Ended → ScanIsFull q.asked q.given.items)
               → {x : Record} {pending : List (Option Pending)} {records : List Record} {count capacity total worker : ℕ} {mid view : SeatView}
               → pending ≡ slice_set self.pending.items w None → records ≡ self.history.items ++ x ∷ [] → x ≡ record_of w q answer to → count ≡ vec_len self.history + 1 → capacity ≡ vec_capacity self.history → total ≡ self.book.total + 1
-              → mid ≡ known_by self.desk.keeper → worker ≡ w → view ≡ keeper_of (mid.log ++ (worker, q.job) ∷ []) (slice_set mid.running worker None)
+              → mid ≡ known_by self.desk.registry → worker ≡ w → view ≡ registry_of (mid.log ++ (worker, q.job) ∷ []) (slice_set mid.running worker None)
               → IsServed pending records seats' k count capacity total view
           served_done q leaves is job full {x} {pending} {records} {count} {capacity} {total} {worker} {mid} {view} pending_is items x_is count_is holds total_is same_desk sits knows =
               let r = record_of w q answer to in
@@ -186,8 +186,8 @@ module _ {S T J : Type 0} {g : Ghosts S} {rows : SetGhosts T} {j : JobGhosts J} 
                 workers = self.workers;
                 enough = omega (arith, self.enough, holds);
                 counted = total_is ∙ ap (λ n. n + 1) self.counted ∙ sym count_is;
-                knows = knows ∙ (λ i. keeper_of ((v i).log ++ (sits i, q.job) ∷ []) (slice_set (v i).running (sits i) None))
-                    ∙ (λ i. keeper_of (sym (notes_of_snoc self.history.items r) i) (sym (jobs_of_set self.pending.items w None) i));
+                knows = knows ∙ (λ i. registry_of ((v i).log ++ (sits i, q.job) ∷ []) (slice_set (v i).running (sits i) None))
+                    ∙ (λ i. registry_of (sym (notes_of_snoc self.history.items r) i) (sym (jobs_of_set self.pending.items w None) i));
               })
 
     -- one more is within a room that isn't full
@@ -200,7 +200,7 @@ module _ {S T J : Type 0} {g : Ghosts S} {rows : SetGhosts T} {j : JobGhosts J} 
 
     -- a job that runs
     module _ (q : Pending) (found : slice_get self.pending.items w ≡ Some (Some q)) where
-      -- what the desk's keeper knows of it stays the same, if it runs on
+      -- what the desk's registry knows of it stays the same, if it runs on
       pub runs_same : jobs_of self.pending.items ≡ slice_set (jobs_of self.pending.items) w (Some q.job)
       runs_same = ap jobs_of (sym (set_same self.pending.items w (Some q) found)) ∙ jobs_of_set self.pending.items w (Some q)
 

@@ -3,7 +3,7 @@ use mathlib.Core.Logic.{∥∥₁_elim}
 use mathlib.Core.Bool.{Bool-set}
 use Rattle.std.proofs.Common.{◌≡◌, ◌≤◌, ◌++◌, ◌∷◌, [], ℕ, Bool, true, false, List, length, Option, Some, None, unwrap_or, slice_get, slice_set, refl, sym, ap, ◌∙◌, subst, arith}
 use Rattle.session_seats.specs.Calls.{begun_by, completed_by, completed_of, given_by, given_more}
-use Rattle.session_seats.specs.Seats.{keeper_with, view_of}
+use Rattle.session_seats.specs.Seats.{registry_with, view_of}
 use Rattle.session_seats.specs.declared.call.CompletedCall.{CompletedCall}
 use Rattle.session_seats.specs.declared.call.Notice.{Notice}
 use Rattle.session_seats.specs.declared.job.Job.TheVariants.{Bulk}
@@ -31,10 +31,10 @@ same_set f h p q i j row = Bool-set (f row) (h row) (λ k. p k row) (λ k. q k r
 module _ {S T J : Type 0} {g : Ghosts S} {rows : SetGhosts T} {past : OriginOnGhosts J S} {j : OriginGhosts J} {group : GroupGhosts J} (self : Live S T J g rows past j group) where
   -- the calls that run, and those that are over
   abbrev pub pending_in : List (Option PendingCall)
-  pending_in = (view_of self.desk.keeper).pending
+  pending_in = (view_of self.desk.registry).pending
 
   abbrev pub log_in : List CompletedCall
-  log_in = (view_of self.desk.keeper).log
+  log_in = (view_of self.desk.registry).log
 
   -- what is kept of what fitted the world as it was handed in
   abbrev pub KeepsWith : StoreAndSlots S → List (Option PendingCall) → List CompletedCall → Type 0
@@ -74,7 +74,7 @@ module _ {S T J : Type 0} {g : Ghosts S} {rows : SetGhosts T} {past : OriginOnGh
       pub long : length pending ≡ length pending_in
       pub next : IsMadeByEvent g (inside rows self.world) (inside rows world)
 
-    -- all that is to be so as the lock is released, if the keeper knows this
+    -- all that is to be so as the lock is released, if the registry knows this
     abbrev pub IsInOrder : SessionView → Type 0
     IsInOrder v = record {
       kept : ∥ KeepsWith (inside rows world) v.pending v.log ∥₁;
@@ -86,7 +86,7 @@ module _ {S T J : Type 0} {g : Ghosts S} {rows : SetGhosts T} {past : OriginOnGh
     }
 
     -- it is so after such an event
-    pub in_order : {pending : List (Option PendingCall)} {log : List CompletedCall} {view : SessionView} → CarriesOn pending log → view ≡ keeper_with log pending → IsInOrder view
+    pub in_order : {pending : List (Option PendingCall)} {log : List CompletedCall} {view : SessionView} → CarriesOn pending log → view ≡ registry_with log pending → IsInOrder view
     in_order leaves is = subst IsInOrder (sym is) (record {
       kept = ∥∥₁_map self.kept leaves.keeps;
       acted = ∥∥₁_map self.acted leaves.acts;
@@ -96,52 +96,52 @@ module _ {S T J : Type 0} {g : Ghosts S} {rows : SetGhosts T} {past : OriginOnGh
       steps = ∥∥₁_map self.steps (follows_on g past.followed (inside rows self.world) (inside rows world) leaves.next);
     })
 
--- What the steps of the seats' cell leave. The keeper knew k and the seat v, and a look has left both so: m
+-- What the steps of the seats' cell leave. The registry knew k and the seat v, and a look has left both so: m
 -- and x. The session is s, and so is that of the seat then. Each step has a notice.
-module _ (k m : SessionView) (s t : ℕ) (keeper : m ≡ k) (same : t ≡ s) (notice : Notice) where
+module _ (k m : SessionView) (s t : ℕ) (registry : m ≡ k) (same : t ≡ s) (notice : Notice) where
   -- a call has begun
-  pub begun_view : {n : SessionView} (removed : List Row) → n ≡ keeper_with m.log (slice_set m.pending t (Some (begun_by removed notice (length m.log)))) → n ≡ keeper_with k.log (slice_set k.pending s (Some (begun_by removed notice (length k.log))))
-  begun_view removed known = known ∙ (λ i. keeper_with (keeper i).log (slice_set (keeper i).pending (same i) (Some (begun_by removed notice (length (keeper i).log)))))
+  pub begun_view : {n : SessionView} (removed : List Row) → n ≡ registry_with m.log (slice_set m.pending t (Some (begun_by removed notice (length m.log)))) → n ≡ registry_with k.log (slice_set k.pending s (Some (begun_by removed notice (length k.log))))
+  begun_view removed known = known ∙ (λ i. registry_with (registry i).log (slice_set (registry i).pending (same i) (Some (begun_by removed notice (length (registry i).log)))))
 
   -- ... and is over at once
-  pub done_view : {n l : SessionView} {r : ℕ} {o : Option PendingCall} (removed : List Row) → n ≡ keeper_with m.log (slice_set m.pending t (Some (begun_by removed notice (length m.log)))) → r ≡ t → o ≡ Some (begun_by removed notice (length m.log))
-      → l ≡ keeper_with (n.log ++ completed_by r notice o ∷ []) (slice_set n.pending r None)
-      → l ≡ keeper_with (k.log ++ completed_of s (begun_by removed notice (length k.log)) notice.answer notice.at ∷ []) (slice_set k.pending s None)
+  pub done_view : {n l : SessionView} {r : ℕ} {o : Option PendingCall} (removed : List Row) → n ≡ registry_with m.log (slice_set m.pending t (Some (begun_by removed notice (length m.log)))) → r ≡ t → o ≡ Some (begun_by removed notice (length m.log))
+      → l ≡ registry_with (n.log ++ completed_by r notice o ∷ []) (slice_set n.pending r None)
+      → l ≡ registry_with (k.log ++ completed_of s (begun_by removed notice (length k.log)) notice.answer notice.at ∷ []) (slice_set k.pending s None)
   done_view removed known again call last =
       let b = begun_view removed known in
-      let o = call ∙ ap (λ (u : SessionView). Some (begun_by removed notice (length u.log))) keeper in
-      last ∙ (λ i. keeper_with ((b i).log ++ completed_by ((again ∙ same) i) notice (o i) ∷ []) (slice_set (b i).pending ((again ∙ same) i) None))
-      ∙ ap (keeper_with (k.log ++ completed_of s (begun_by removed notice (length k.log)) notice.answer notice.at ∷ [])) (set_twice k.pending s (Some (begun_by removed notice (length k.log))) None)
+      let o = call ∙ ap (λ (u : SessionView). Some (begun_by removed notice (length u.log))) registry in
+      last ∙ (λ i. registry_with ((b i).log ++ completed_by ((again ∙ same) i) notice (o i) ∷ []) (slice_set (b i).pending ((again ∙ same) i) None))
+      ∙ ap (registry_with (k.log ++ completed_of s (begun_by removed notice (length k.log)) notice.answer notice.at ∷ [])) (set_twice k.pending s (Some (begun_by removed notice (length k.log))) None)
 
   -- the call that runs has given one entry more
-  pub given_view : {n : SessionView} {o : Option PendingCall} (p : PendingCall) → o ≡ Some p → n ≡ keeper_with m.log (slice_set m.pending t (given_by notice o)) → n ≡ keeper_with k.log (slice_set k.pending s (Some (given_more p notice.answer)))
-  given_view p runs known = known ∙ (λ i. keeper_with (keeper i).log (slice_set (keeper i).pending (same i) (given_by notice (runs i))))
+  pub given_view : {n : SessionView} {o : Option PendingCall} (p : PendingCall) → o ≡ Some p → n ≡ registry_with m.log (slice_set m.pending t (given_by notice o)) → n ≡ registry_with k.log (slice_set k.pending s (Some (given_more p notice.answer)))
+  given_view p runs known = known ∙ (λ i. registry_with (registry i).log (slice_set (registry i).pending (same i) (given_by notice (runs i))))
 
   -- ... or is over
-  pub ended_view : {n : SessionView} {o : Option PendingCall} (p : PendingCall) → o ≡ Some p → n ≡ keeper_with (m.log ++ completed_by t notice o ∷ []) (slice_set m.pending t None)
-      → n ≡ keeper_with (k.log ++ completed_of s p notice.answer notice.at ∷ []) (slice_set k.pending s None)
-  ended_view p runs known = known ∙ (λ i. keeper_with ((keeper i).log ++ completed_by (same i) notice (runs i) ∷ []) (slice_set (keeper i).pending (same i) None))
+  pub ended_view : {n : SessionView} {o : Option PendingCall} (p : PendingCall) → o ≡ Some p → n ≡ registry_with (m.log ++ completed_by t notice o ∷ []) (slice_set m.pending t None)
+      → n ≡ registry_with (k.log ++ completed_of s p notice.answer notice.at ∷ []) (slice_set k.pending s None)
+  ended_view p runs known = known ∙ (λ i. registry_with ((registry i).log ++ completed_by (same i) notice (runs i) ∷ []) (slice_set (registry i).pending (same i) None))
 
 -- a seat runs what it ran before a look
 pub ran : {x v : SessionView} {p : PendingCall} → x ≡ v → v.call ≡ Some p → x.call ≡ Some p
 ran seat runs = ap (λ (u : SessionView). u.call) seat ∙ runs
 
--- What that leaves of the session's call. The keeper knows n then, and the seat y.
+-- What that leaves of the session's call. The registry knows n then, and the seat y.
 module _ (k n v y : SessionView) (s : ℕ) where
   -- it runs on as it did
   pub still_leaves : (p : PendingCall) (answer : Answer) (to : ℕ) → n ≡ k → y ≡ v → slice_get k.pending s ≡ Some v.call → v.call ≡ Some p → LeavesCall s false p answer to k n v y
-  still_leaves p answer to keeper seat at runs = record {
-    log = ap (λ (u : SessionView). u.log) keeper;
-    pending = ap (λ (u : SessionView). u.pending) keeper ∙ sym (set_same k.pending s (Some p) (at ∙ ap Some runs));
+  still_leaves p answer to registry seat at runs = record {
+    log = ap (λ (u : SessionView). u.log) registry;
+    pending = ap (λ (u : SessionView). u.pending) registry ∙ sym (set_same k.pending s (Some p) (at ∙ ap Some runs));
     call = ap (λ (u : SessionView). u.call) seat ∙ runs;
     calls = ap (λ (u : SessionView). u.calls) seat;
   }
 
   -- it is this now
-  pub runs_leaves : (p : PendingCall) (answer : Answer) (to : ℕ) → n ≡ keeper_with k.log (slice_set k.pending s (Some p)) → y.call ≡ Some p → y.calls ≡ v.calls → LeavesCall s false p answer to k n v y
+  pub runs_leaves : (p : PendingCall) (answer : Answer) (to : ℕ) → n ≡ registry_with k.log (slice_set k.pending s (Some p)) → y.call ≡ Some p → y.calls ≡ v.calls → LeavesCall s false p answer to k n v y
   runs_leaves p answer to view call calls = record { log = ap (λ (u : SessionView). u.log) view; pending = ap (λ (u : SessionView). u.pending) view; call = call; calls = calls }
 
   -- ... or it is over
-  pub over_leaves : (p : PendingCall) (answer : Answer) (to : ℕ) → n ≡ keeper_with (k.log ++ completed_of s p answer to ∷ []) (slice_set k.pending s None) → y.call ≡ None
+  pub over_leaves : (p : PendingCall) (answer : Answer) (to : ℕ) → n ≡ registry_with (k.log ++ completed_of s p answer to ∷ []) (slice_set k.pending s None) → y.call ≡ None
       → y.calls ≡ v.calls ++ (length k.log, completed_of s p answer to) ∷ [] → LeavesCall s true p answer to k n v y
   over_leaves p answer to view call calls = record { log = ap (λ (u : SessionView). u.log) view; pending = ap (λ (u : SessionView). u.pending) view; call = call; calls = calls }

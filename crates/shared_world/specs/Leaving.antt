@@ -1,4 +1,4 @@
--- What an event under the lock leaves of a session's call, to the keeper and to the session's seat.
+-- What an event under the lock leaves of a session's call, to the registry and to the session's seat.
 use Rattle.std.specs.Prelude.{◌≡◌, ℕ, Bool, true, false, Option, Some, None, unwrap_or, List, [], ◌∷◌, ◌++◌, length, slice_set}
 use Rattle.index_model.specs.Row.{Row}
 use Rattle.session_calls.specs.declared.answer.Answer.{Answer}
@@ -54,7 +54,7 @@ call_after true p = None
 -- An event of the session's call, which is this now. If it is over, it stands at the end of the log, with
 -- this answer, and so many actions there were then; and its session runs nothing. No other call is touched.
 pub record LeavesCall (session : ℕ) (over : Bool) (p : PendingCall) (answer : Answer) (to : ℕ) (old new before after : SessionView) : Type 0 where
-  -- what the keeper knows
+  -- what the registry knows
   pub log : new.log ≡ log_after over (completed_of session p answer to) old.log
   pub pending : new.pending ≡ slice_set old.pending session (call_after over p)
   -- what the seat knows

@@ -1,5 +1,5 @@
--- What the keepers of the workers' seats and of the sessions' seats know of the records and of the jobs that
--- run.
+-- What the registries of the workers' seats and of the sessions' seats know of the records and of the jobs
+-- that run.
 use Rattle.std.specs.Prelude.{ℕ, List, map, Option, Some, None}
 use Rattle.session_calls.specs.TheoremCalls.{DeadSets}
 use Rattle.session_calls.specs.declared.answer.Answer.{Answer}

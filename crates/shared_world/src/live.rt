@@ -9,7 +9,7 @@ ghost use Rattle.whole_calls.specs.OneStep.{IsMadeAsStep, OneStepAlways, OneStep
 ghost use Rattle.world.specs.Sets.{IsNotPutFor};
 ghost use Rattle.world.specs.Worlds.{inside};
 ghost use Rattle.session_seats.specs.Calls.{begun_by, given_more};
-ghost use Rattle.session_seats.specs.Seats.{keeper_with, view_of};
+ghost use Rattle.session_seats.specs.Seats.{registry_with, view_of};
 ghost use Rattle.shared_world.specs.Acted.{HasActed, MayBeLeft};
 ghost use Rattle.shared_world.specs.Doing.{IsEventDone};
 ghost use Rattle.shared_world.specs.Handed.{ComesOf, IsAsHanded, StillFollows};
@@ -32,7 +32,7 @@ use std::marker::Brand;
 use world::{NotPut, World};
 
 /// A world whose sessions threads share. It lies under their lock, and its facts hold at each release. It
-/// keeps no record of what was done: the log of all calls stands in the keeper's view, for clauses alone.
+/// keeps no record of what was done: the log of all calls stands in the registry's view, for clauses alone.
 #[derive(Drop)]
 pub struct Live<S: PageStore, T: DeadRows + Drop, J: OriginOn<S>> {
     pub world: World<S, T>,
@@ -42,11 +42,11 @@ pub struct Live<S: PageStore, T: DeadRows + Drop, J: OriginOn<S>> {
     pub moves: u64,
     pub desk: SessionDesk<J>,
     pub ghost kept: { ∥ KeepsAll S.PageStore J.handed J.stood J.kept_then (inside T.DeadRows world) start
-        (view_of desk.keeper).pending (view_of desk.keeper).log ∥₁ },
+        (view_of desk.registry).pending (view_of desk.registry).log ∥₁ },
     pub ghost acted: { ∥ HasActed S.PageStore J.handed (inside T.DeadRows world)
-        (view_of desk.keeper).pending (view_of desk.keeper).log ∥₁ },
-    pub ghost matches: { ∥ MatchesPending world.calls.slots.items (view_of desk.keeper).pending ∥₁ },
-    pub ghost seats: { length (view_of desk.keeper).pending ≤ length world.calls.slots.items },
+        (view_of desk.registry).pending (view_of desk.registry).log ∥₁ },
+    pub ghost matches: { ∥ MatchesPending world.calls.slots.items (view_of desk.registry).pending ∥₁ },
+    pub ghost seats: { length (view_of desk.registry).pending ≤ length world.calls.slots.items },
     pub ghost comes: { ∥ ComesOf S.PageStore J.handed start (inside T.DeadRows world) ∥₁ },
     pub ghost steps: { ∥ StillFollows S.PageStore J.followed world.store ∥₁ },
 }
@@ -113,14 +113,14 @@ fn begin_naming<S: PageStore, T: DeadRows, J: SessionGroup, B: AskedRows>(
     notice: &Notice,
 ) -> SessionSeat<J>
     requires rows { B.rows ≡ rows_in (set_asked (inside T.DeadRows world.now).sets notice.now.asked) }
-    ensures keeper { view_of desk.new.keeper ≡ keeper_with (view_of desk.old.keeper).log
-        (slice_set (view_of desk.old.keeper).pending seat.session (Some (begun_by
+    ensures registry { view_of desk.new.registry ≡ registry_with (view_of desk.old.registry).log
+        (slice_set (view_of desk.old.registry).pending seat.session (Some (begun_by
         (rows_in (set_asked (inside T.DeadRows world.now).sets notice.now.asked)) notice.now
-        (length (view_of desk.old.keeper).log)))) }
+        (length (view_of desk.old.registry).log)))) }
     ensures session { result.session ≡ seat.session }
     ensures call { (view_of result.pass).call ≡ Some (begun_by
         (rows_in (set_asked (inside T.DeadRows world.now).sets notice.now.asked)) notice.now
-        (length (view_of desk.old.keeper).log)) }
+        (length (view_of desk.old.registry).log)) }
     ensures calls { (view_of result.pass).calls ≡ (view_of seat.pass).calls }
 {
     begin::<J, B>(desk, seat, notice)
@@ -132,10 +132,10 @@ impl<S: PageStore, T: DeadRows + Drop, J: OriginOn<S>> Live<S, T, J> {
         requires stood { Stands S.PageStore J.stood J.kept_then J.followed (inside T.DeadRows world) }
         requires handed { IsAsHanded S.PageStore J.handed (inside T.DeadRows world) }
         requires rests { AreIdle world.calls.slots.items }
-        requires first { (view_of desk.keeper).log ≡ [] }
+        requires first { (view_of desk.registry).log ≡ [] }
         requires none { (session : ℕ) (p : RunningCall)
-            → slice_get (view_of desk.keeper).pending session ≡ Some (Some p) → ⊥ }
-        requires seats { length (view_of desk.keeper).pending ≤ length world.calls.slots.items }
+            → slice_get (view_of desk.registry).pending session ≡ Some (Some p) → ⊥ }
+        requires seats { length (view_of desk.registry).pending ≤ length world.calls.slots.items }
         ensures world { result.world ≡ world }
         ensures start { result.start ≡ (S.state world.store).acts }
         ensures desk { result.desk ≡ desk }
@@ -180,9 +180,9 @@ impl<S: PageStore, T: DeadRows + Drop, J: OriginOn<S>> Live<S, T, J> {
             (inside T.DeadRows self.old.world) (inside T.DeadRows self.new.world) }
         ensures over { result.over ≡ not (is_begun result.answer) }
         ensures told { LeavesCall seat.session result.over
-            (call_begun asked (rows_in (set_asked (inside T.DeadRows self.old.world).sets asked)) (S.state self.old.world.store).acts (length (view_of self.old.desk.keeper).log))
+            (call_begun asked (rows_in (set_asked (inside T.DeadRows self.old.world).sets asked)) (S.state self.old.world.store).acts (length (view_of self.old.desk.registry).log))
             result.answer (S.state self.old.world.store).acts
-            (view_of self.old.desk.keeper) (view_of self.new.desk.keeper)
+            (view_of self.old.desk.registry) (view_of self.new.desk.registry)
             (view_of seat.pass) (view_of result.seat.pass) }
     {
         let session = seat.session;
@@ -223,7 +223,7 @@ impl<S: PageStore, T: DeadRows + Drop, J: OriginOn<S>> Live<S, T, J> {
             (inside T.DeadRows self.old.world) (inside T.DeadRows self.new.world) }
         ensures told { LeavesCall seat.session result.over (call_in (view_of seat.pass)) result.answer
             (S.state self.new.world.store).acts
-            (view_of self.old.desk.keeper) (view_of self.new.desk.keeper)
+            (view_of self.old.desk.registry) (view_of self.new.desk.registry)
             (view_of seat.pass) (view_of result.seat.pass) }
     {
         let session = seat.session;
@@ -255,7 +255,7 @@ impl<S: PageStore, T: DeadRows + Drop, J: OriginOn<S>> Live<S, T, J> {
         ensures event { IsEventDone S.PageStore (Event.Next seat.session) result.1
             (inside T.DeadRows self.old.world) (inside T.DeadRows self.new.world) }
         ensures told { LeavesCall seat.session false (given_more (call_in (view_of seat.pass)) result.1)
-            result.1 0 (view_of self.old.desk.keeper) (view_of self.new.desk.keeper)
+            result.1 0 (view_of self.old.desk.registry) (view_of self.new.desk.registry)
             (view_of seat.pass) (view_of result.0.pass) }
     {
         let session = seat.session;
@@ -288,7 +288,7 @@ impl<S: PageStore, T: DeadRows + Drop, J: OriginOn<S>> Live<S, T, J> {
             (inside T.DeadRows self.old.world) (inside T.DeadRows self.new.world) }
         ensures told { LeavesCall seat.session true (call_in (view_of seat.pass)) Answer.Ended
             (S.state self.new.world.store).acts
-            (view_of self.old.desk.keeper) (view_of self.new.desk.keeper)
+            (view_of self.old.desk.registry) (view_of self.new.desk.registry)
             (view_of seat.pass) (view_of result.pass) }
     {
         let session = seat.session;

@@ -3,12 +3,12 @@
 ghost use Rattle.std.specs.Prelude.{◌≡◌, ◌≤◌, ◌<◌, ◌+◌, [], ℕ, IfSome, None, length, replicate, Some, slice_get, vec_len, vec_capacity};
 ghost use Rattle.crossbeam_queue.specs.Passes.{view};
 ghost use Rattle.worker_seats.specs.Queue.{KnowsAll, jobs_in, sum_over, weigh};
-ghost use Rattle.worker_seats.specs.Seats.{keeper_of, known_by, notes_by};
+ghost use Rattle.worker_seats.specs.Seats.{registry_of, known_by, notes_by};
 ghost use Rattle.session_calls.specs.TheoremCalls.{DeadSets};
 ghost use Rattle.world.specs.Worlds.{inside};
 ghost use Rattle.shared_world.specs.Ended.{HasRun};
 ghost use Rattle.shared_world.specs.Handed.{IsAsHanded};
-ghost use Rattle.session_seats.specs.Seats.{keeper_with, view_of};
+ghost use Rattle.session_seats.specs.Seats.{registry_with, view_of};
 ghost use Rattle.shared_world.specs.Notes.{jobs_of, notes_of};
 ghost use Rattle.shared_world.specs.Seated.{IsSeatAt};
 ghost use Rattle.shared_world.specs.Standing.{AreIdle, Stands};
@@ -31,10 +31,10 @@ fn open_seats<J: SessionGroup>(
     seats: &mut Vec<Option<SessionSeat<J>>>,
     count: u32,
 )
-    requires first { view_of sessions.old.keeper ≡ keeper_with [] [] }
+    requires first { view_of sessions.old.registry ≡ registry_with [] [] }
     requires empty { seats.old.items ≡ [] }
     requires room { count ≤ vec_capacity seats.old }
-    ensures keeper { view_of sessions.new.keeper ≡ keeper_with [] (replicate count None) }
+    ensures registry { view_of sessions.new.registry ≡ registry_with [] (replicate count None) }
     ensures seats { (sets : DeadSets) (session : ℕ) → session < count
         → IsSeatAt sets session (Some None) (slice_get seats.new.items session) }
 {
@@ -68,8 +68,8 @@ pub fn first<S: PageStore, T: DeadRows + Drop, J: JobsOn<S>>(
     requires few { J.workers ≤ 64 }
     requires workers { vec_len pending ≡ J.workers }
     requires book { book.total ≡ 0 }
-    requires keeper { known_by desk.keeper ≡ keeper_of [] (jobs_of pending.items) }
-    requires sessions { view_of sessions.keeper ≡ keeper_with [] [] }
+    requires registry { known_by desk.registry ≡ registry_of [] (jobs_of pending.items) }
+    requires sessions { view_of sessions.registry ≡ registry_with [] [] }
     ensures world { result.live.world ≡ world }
     ensures start { result.live.start ≡ (S.state world.store).acts }
     ensures history { result.history ≡ history }

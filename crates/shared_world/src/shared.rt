@@ -4,7 +4,7 @@ ghost use Rattle.std.specs.Prelude.{◌≡◌, ◌≢◌, ◌<◌, ◌≤◌, �
 ghost use Rattle.whole_calls.specs.Going.{CallIsRun};
 ghost use Rattle.whole_calls.specs.Made.{IsMadeOf};
 ghost use Rattle.whole_calls.specs.OneStep.{IsMadeAsStep, OneStepAlways, OneStepComesTo, OneStepIsRun};
-ghost use Rattle.worker_seats.specs.Seats.{keeper_of, known_by};
+ghost use Rattle.worker_seats.specs.Seats.{registry_of, known_by};
 ghost use Rattle.world.specs.Worlds.{inside};
 ghost use Rattle.session_seats.specs.Seats.{view_of};
 ghost use Rattle.shared_world.specs.Booked.{AreBooked};
@@ -37,14 +37,14 @@ pub struct Shared<S: PageStore, T: DeadRows + Drop, J: JobsOn<S>> {
     pub book: Book<J>,
     pub desk: Desk<J>,
     pub ghost stays: { J.handed.spare ≡ None },
-    pub ghost told: { (view_of live.desk.keeper).log ≡ completed_calls J.handed.sets history.items },
-    pub ghost runs: { (view_of live.desk.keeper).pending ≡ pending_calls J.handed.sets pending.items },
+    pub ghost told: { (view_of live.desk.registry).log ≡ completed_calls J.handed.sets history.items },
+    pub ghost runs: { (view_of live.desk.registry).pending ≡ pending_calls J.handed.sets pending.items },
     pub ghost booked: { AreBooked J.jobs pending.items history.items } by { AreBooked-prop J.jobs pending.items history.items },
     pub ghost seated: { AreSeated J.handed.sets J.workers pending.items seats.items } by { AreSeated-prop J.handed.sets J.workers pending.items seats.items },
     pub ghost workers: { vec_len pending ≡ J.workers },
     pub ghost enough: { length J.jobs ≤ vec_capacity history },
     pub ghost counted: { book.total ≡ vec_len history },
-    pub ghost knows: { known_by desk.keeper ≡ keeper_of (notes_of history.items) (jobs_of pending.items) },
+    pub ghost knows: { known_by desk.registry ≡ registry_of (notes_of history.items) (jobs_of pending.items) },
 }
 
 /// What an event under the lock leaves its worker: its seat, the answer, and the place of the record, if it

@@ -5,8 +5,8 @@ ghost use Rattle.std.specs.Prelude.{◌≡◌, ◌≤◌, ◌<◌, ◌+◌, ◌�
 ghost use Rattle.index_model.specs.Actions.{Action};
 ghost use Rattle.index_model.specs.Calls.{Call};
 ghost use Rattle.index_model.specs.declared.entry.Entry.{Entry as OneEntry};
-ghost use Rattle.session_seats.specs.Seats.{IsSessionCell, keeper_with, view_of};
-ghost use Rattle.worker_seats.specs.Seats.{IsCellOf, keeper_of, known_by};
+ghost use Rattle.session_seats.specs.Seats.{IsSessionCell, registry_with, view_of};
+ghost use Rattle.worker_seats.specs.Seats.{IsCellOf, registry_of, known_by};
 ghost use Rattle.world.specs.Worlds.{WorldFits, WorldKeeps, inside};
 ghost use Rattle.shared_world.specs.Standing.{AreIdle};
 ghost use Rattle.shared_world.specs.Handed.{handed_of, IsAsHanded};
@@ -308,8 +308,8 @@ fn seated<S: PageStore, T: DeadRows + Drop, J: JobsOn<S>>(
     requires handed { IsAsHanded S.PageStore J.handed (inside T.DeadRows world) }
     requires stays { J.handed.spare ≡ None }
     requires stood { Stands S.PageStore J.stood J.kept_then J.followed (inside T.DeadRows world) }
-    requires knows { known_by desk.keeper ≡ keeper_of [] [] }
-    requires none_known { view_of sessions.keeper ≡ keeper_with [] [] }
+    requires knows { known_by desk.registry ≡ registry_of [] [] }
+    requires none_known { view_of sessions.registry ≡ registry_with [] [] }
     requires few { workers ≤ 64 }
     requires sessions { workers ≤ length world.calls.slots.items }
     requires rests { AreIdle world.calls.slots.items }
@@ -346,9 +346,9 @@ fn act_named<
 >(
     rt: &R,
     cell: SeatCell,
-    keeper: SeatPass,
+    registry: SeatPass,
     session_cell: SessionCell,
-    session_keeper: SessionPass,
+    session_registry: SessionPass,
     blank: Blank,
     world: World<S, T>,
     jobs: &[Job],
@@ -359,8 +359,8 @@ fn act_named<
     requires all { blank.parts ≡ 65 }
     requires seats { IsCellOf J.seats cell.shared.table_id }
     requires session_cell { IsSessionCell J.sessions session_cell.shared.table_id }
-    requires session_keeper { session_keeper.table_id ≡ session_cell.shared.table_id }
-    requires none_known { view_of session_keeper ≡ keeper_with [] [] }
+    requires session_registry { session_registry.table_id ≡ session_cell.shared.table_id }
+    requires none_known { view_of session_registry ≡ registry_with [] [] }
     requires jobs { J.jobs ≡ jobs.now }
     requires workers { J.workers ≡ by.workers }
     requires handed { J.handed ≡ handed_of S.PageStore T.DeadRows None world }
@@ -371,8 +371,8 @@ fn act_named<
         → J.kept_then contents history calls
         ↔ WorldKeeps S.PageStore T.DeadRows world contents history calls }
     requires followed { (first : S) → J.followed first ↔ S.follows first world.store }
-    requires keeper { keeper.table_id ≡ cell.shared.table_id }
-    requires knows { known_by keeper ≡ keeper_of [] [] }
+    requires registry { registry.table_id ≡ cell.shared.table_id }
+    requires knows { known_by registry ≡ registry_of [] [] }
     requires few { by.workers ≤ 64 }
     requires sessions { by.workers ≤ length world.calls.slots.items }
     requires rests { AreIdle world.calls.slots.items }
@@ -381,8 +381,8 @@ fn act_named<
     let pending = Vec::with_capacity(rt.alloc(), by.workers as usize)?;
     let session_seats = Vec::with_capacity(rt.alloc(), by.workers as usize)?;
     let hands = Vec::with_capacity(rt.alloc(), by.workers as usize)?;
-    let desk = Desk::new(cell, keeper);
-    let sessions = SessionDesk::new(session_cell, session_keeper);
+    let desk = Desk::new(cell, registry);
+    let sessions = SessionDesk::new(session_cell, session_registry);
     let (mut shared, mut hands) = seated::<S, T, J>(
         desk,
         sessions,
@@ -422,10 +422,10 @@ pub fn act_by_hand<
     if workers > 64 || workers > world.sessions() || !is_idle(&world) {
         return Err(Fail::from(Fault::BadLimits));
     }
-    let Some((cell, keeper)) = make_cell(rt.alloc()) else {
+    let Some((cell, registry)) = make_cell(rt.alloc()) else {
         return Err(Fail::from(Fault::NoMemory));
     };
-    let Some((session_cell, session_keeper)) = session_seats::make_cell(rt.alloc()) else {
+    let Some((session_cell, session_registry)) = session_seats::make_cell(rt.alloc()) else {
         return Err(Fail::from(Fault::NoMemory));
     };
     let blank = Blank::new(65);
@@ -433,9 +433,9 @@ pub fn act_by_hand<
     act_named::<S, T, Brand, R>(
         rt,
         cell,
-        keeper,
+        registry,
         session_cell,
-        session_keeper,
+        session_registry,
         blank,
         world,
         jobs,

@@ -8,7 +8,7 @@ use lib.ListN.{get_elem?}
 use Rattle.atomic_table.specs.Table.{State, keeps as still, Step, Allows, Splits, Joins}
 use Rattle.atomic_table.proofs.Lists.{at_set, at_snoc}
 use Rattle.worker_seats.specs.declared.seating.SeatView.{SeatView}
-use Rattle.worker_seats.specs.Seats.{notes_from, notes_by, keeper_of, nobody, beside, keeper_in, seat_in, keeper_of_one_more, seat_of_one_more, after_start, after_note, KeeperFits, SeatFits, ViewFits, SitApart, SeatsFit, SeatHasStarted, HasNoted, HasChecked}
+use Rattle.worker_seats.specs.Seats.{notes_from, notes_by, registry_of, nobody, beside, registry_in, seat_in, registry_of_one_more, seat_of_one_more, after_start, after_note, RegistryFits, SeatFits, ViewFits, SitApart, SeatsFit, SeatHasStarted, HasNoted, HasChecked}
 use Rattle.worker_seats.proofs.Rows.{get_front, get_last, get_within, set_else, set_here}
 
 -- a view that is another keeps, or sits, as that does
@@ -90,33 +90,33 @@ other_note w x job log n = let h = notes_from_snoc 0 w log (x, job) in grind (ar
 own_note : (x job : ℕ) (log : List (ℕ × ℕ)) → notes_by x (log ++ (x, job) ∷ []) ≡ notes_by x log ++ (length log, job) ∷ []
 own_note x job log = let h = notes_from_snoc 0 x log (x, job) in grind (arith, h, nat_tests)
 
-pub begins : SeatsFit (keeper_of [] [] ∷ [])
+pub begins : SeatsFit (registry_of [] [] ∷ [])
 begins = record { desk = 0; log = []; running = []; each = one; apart = two }
   where
-    one : EachViewFits 0 [] [] (keeper_of [] [] ∷ [])
-    one zero v e = subst (ViewFits 0 [] [] 0) (some-injective _ _ e) (record { keeper = λ _. record { desk_is = refl; log_is = refl; running_is = refl }; seat = λ c. absurd (false≢true c) })
+    one : EachViewFits 0 [] [] (registry_of [] [] ∷ [])
+    one zero v e = subst (ViewFits 0 [] [] 0) (some-injective _ _ e) (record { registry = λ _. record { desk_is = refl; log_is = refl; running_is = refl }; seat = λ c. absurd (false≢true c) })
     one (suc pass) v e = absurd (some-ne-none v (sym e))
 
-    two : SitApart (keeper_of [] [] ∷ [])
+    two : SitApart (registry_of [] [] ∷ [])
     two zero zero u v e f s t same = refl
     two zero (suc j) u v e f s t same = absurd (some-ne-none v (sym f))
     two (suc i) j u v e f s t same = absurd (some-ne-none u (sym e))
 
 -- with another list of what each session runs, and another log, all views fit again
 module _ (views : List SeatView) (h : SeatsFit views) (pass : ℕ) (v : SeatView) (at : get_elem? views pass ≡ some v) (keeps : v.keeps ≡ true) where
-  keeper : KeeperFits h.desk h.log h.running pass v
-  keeper = (h.each pass v at).keeper keeps
+  registry : RegistryFits h.desk h.log h.running pass v
+  registry = (h.each pass v at).registry keeps
 
   -- no other pass keeps
   none_keeps : (j : ℕ) (u : SeatView) → j ≢ pass → get_elem? views j ≡ some u → u.keeps ≡ true → ⊥
-  none_keeps j u apart e c = apart (((h.each j u e).keeper c).desk_is ∙ sym keeper.desk_is)
+  none_keeps j u apart e c = apart (((h.each j u e).registry c).desk_is ∙ sym registry.desk_is)
 
   -- where no other's seat is touched
   pub refit : (log : List (ℕ × ℕ)) (running : List (Option ℕ)) (w : SeatView)
       → ((j : ℕ) (u : SeatView) → j ≢ pass → get_elem? views j ≡ some u → u.sits ≡ true → SeatFits h.log h.running u → SeatFits log running u)
       → ViewFits h.desk log running pass w → EachViewFits h.desk log running (set views pass w)
   refit log running w others mine = each_set h.desk log running views pass w
-      (λ j u apart e. record { keeper = λ c. absurd (none_keeps j u apart e c); seat = λ c. others j u apart e c ((h.each j u e).seat c) })
+      (λ j u apart e. record { registry = λ c. absurd (none_keeps j u apart e c); seat = λ c. others j u apart e c ((h.each j u e).seat c) })
       mine
 
   -- who sits beside it stays the only one of its session
@@ -131,7 +131,7 @@ module _ (views : List SeatView) (h : SeatsFit views) (pass : ℕ) (v : SeatView
     starts_each job = refit h.log (slice_set h.running v.worker (Some job)) (after_start v job)
         (λ j u apart e su f. record { job_is = set_else h.running v.worker u.worker (Some job) (another j u apart e su) ∙ f.job_is; notes_is = f.notes_is })
         (record {
-          keeper = λ _. record { desk_is = keeper.desk_is; log_is = keeper.log_is; running_is = ap (λ l. slice_set l v.worker (Some job)) keeper.running_is };
+          registry = λ _. record { desk_is = registry.desk_is; log_is = registry.log_is; running_is = ap (λ l. slice_set l v.worker (Some job)) registry.running_is };
           seat = λ _. record { job_is = set_here h.running v.worker v.job (Some job) seat.job_is; notes_is = seat.notes_is };
         })
 
@@ -151,11 +151,11 @@ module _ (views : List SeatView) (h : SeatsFit views) (pass : ℕ) (v : SeatView
           notes_is = f.notes_is ∙ sym (other_note u.worker v.worker job h.log (another j u apart e su));
         })
         (record {
-          keeper = λ _. record { desk_is = keeper.desk_is; log_is = ap (λ l. l ++ (v.worker, job) ∷ []) keeper.log_is; running_is = ap (λ l. slice_set l v.worker None) keeper.running_is };
+          registry = λ _. record { desk_is = registry.desk_is; log_is = ap (λ l. l ++ (v.worker, job) ∷ []) registry.log_is; running_is = ap (λ l. slice_set l v.worker None) registry.running_is };
           seat = λ _. record {
             job_is = set_here h.running v.worker v.job None seat.job_is;
             notes_is = ap (λ (t : List (ℕ × ℕ)). t ++ (length v.log, job) ∷ []) seat.notes_is
-                ∙ ap (λ (t : List (ℕ × ℕ)). notes_by v.worker h.log ++ (length t, job) ∷ []) keeper.log_is ∙ sym (own_note v.worker job h.log);
+                ∙ ap (λ (t : List (ℕ × ℕ)). notes_by v.worker h.log ++ (length t, job) ∷ []) registry.log_is ∙ sym (own_note v.worker job h.log);
           };
         })
 
@@ -181,7 +181,7 @@ module _ (slots pass : ℕ) (v : SeatView) (c : List (ℕ × Unit {0})) (f : ℕ
 
   pub checks_allows : Allows Rule slots pass (v, c) i f (HasChecked st (v, c))
   checks_allows s h len at small =
-      let k = keeper s.views h pass v at kept in (
+      let k = registry s.views h pass v at kept in (
         v,
         still,
         tt,
@@ -205,21 +205,21 @@ module _ (slots pass : ℕ) (v : SeatView) (c : List (ℕ × Unit {0})) (f : ℕ
 idle_free : (views : List SeatView) (pass : ℕ) (w : SeatView) → w.sits ≡ false → Free views pass w
 idle_free views pass w idle j u apart e su sw same = false≢true (sym idle ∙ sw)
 
--- the seat leaves the keeper
-pub leaves : (pass : ℕ) (v : SeatView) → v.keeps ≡ true → Splits Rule pass v (keeper_in v) (seat_in v)
+-- the seat leaves the registry
+pub leaves : (pass : ℕ) (v : SeatView) → v.keeps ≡ true → Splits Rule pass v (registry_in v) (seat_in v)
 leaves pass v keeps s h at =
     let views = s.views in
-    let a = keeper_in v in
+    let a = registry_in v in
     let f = h.each pass v at in
-    let k = f.keeper keeps in
+    let k = f.registry keeps in
     let rest = refit views h pass v at keeps h.log h.running a (λ j u apart e su s. s)
-    (record { keeper = λ _. record { desk_is = k.desk_is; log_is = k.log_is; running_is = k.running_is }; seat = λ c. absurd (false≢true c) }) in
+    (record { registry = λ _. record { desk_is = k.desk_is; log_is = k.log_is; running_is = k.running_is }; seat = λ c. absurd (false≢true c) }) in
     record {
       desk = h.desk;
       log = h.log;
       running = h.running;
       each = each_snoc h.desk h.log h.running (set views pass a) (seat_in v) rest
-          (λ j. record { keeper = λ c. absurd (false≢true c); seat = λ c. record { job_is = (f.seat c).job_is; notes_is = (f.seat c).notes_is } });
+          (λ j. record { registry = λ c. absurd (false≢true c); seat = λ c. record { job_is = (f.seat c).job_is; notes_is = (f.seat c).notes_is } });
       apart = apart_snoc (set views pass a) (seat_in v) (apart_set views pass a h.apart (idle_free views pass a refl))
           (λ j u e su sw same. ⊎_elim
           (λ (x : (j ≡ pass) × (a ≡ u)). false≢true (ap (λ (z : SeatView). z.sits) x.1 ∙ su))
@@ -228,22 +228,22 @@ leaves pass v keeps s h at =
     }
 
 -- a seat for one session more
-pub widens : (pass : ℕ) (v : SeatView) → v.keeps ≡ true → Splits Rule pass v (keeper_of_one_more v) (seat_of_one_more v)
+pub widens : (pass : ℕ) (v : SeatView) → v.keeps ≡ true → Splits Rule pass v (registry_of_one_more v) (seat_of_one_more v)
 widens pass v keeps s h at =
     let views = s.views in
-    let k = keeper views h pass v at keeps in
-    let a = keeper_of_one_more v in
+    let k = registry views h pass v at keeps in
+    let a = registry_of_one_more v in
     let running : List (Option ℕ) = h.running ++ None ∷ [] in
     let rest = refit views h pass v at keeps h.log running a
     (λ j u apart e su s. record { job_is = get_front h.running (None ∷ []) u.worker u.job s.job_is; notes_is = s.notes_is })
-    (record { keeper = λ _. record { desk_is = k.desk_is; log_is = k.log_is; running_is = ap (λ l. l ++ None ∷ []) k.running_is }; seat = λ c. absurd (false≢true c) }) in
+    (record { registry = λ _. record { desk_is = k.desk_is; log_is = k.log_is; running_is = ap (λ l. l ++ None ∷ []) k.running_is }; seat = λ c. absurd (false≢true c) }) in
     record {
       desk = h.desk;
       log = h.log;
       running = running;
       each = each_snoc h.desk h.log running (set views pass a) (seat_of_one_more v) rest
           (λ j. record {
-            keeper = λ c. absurd (false≢true c);
+            registry = λ c. absurd (false≢true c);
             seat = λ _. record {
               job_is = ap (λ (l : List (Option ℕ)). slice_get running (length l)) k.running_is ∙ get_last h.running None;
               notes_is = ap (λ l. notes_by (length v.running) l) k.log_is;
@@ -258,7 +258,7 @@ widens pass v keeps s h at =
           (at_set views pass j a u e));
     }
 
--- a seat comes beside the keeper
+-- a seat comes beside the registry
 pub sits_down : (pass : ℕ) (v : SeatView) (other : ℕ) (u : SeatView) → v.keeps ≡ true → Joins Rule pass v other u (beside v u) nobody
 sits_down pass v other u keeps s h at apart there =
     let views = s.views in
@@ -272,12 +272,12 @@ sits_down pass v other u keeps s h at apart there =
       each = each_set h.desk h.log h.running (set views pass w) other nobody
           (λ j y _ e. each_set h.desk h.log h.running views pass w (λ i z _ e'. h.each i z e')
           (record {
-            keeper = λ c.
-                record { desk_is = (f.keeper keeps).desk_is; log_is = (f.keeper keeps).log_is; running_is = (f.keeper keeps).running_is };
+            registry = λ c.
+                record { desk_is = (f.registry keeps).desk_is; log_is = (f.registry keeps).log_is; running_is = (f.registry keeps).running_is };
             seat =
                 λ c. record { job_is = (g.seat c).job_is; notes_is = (g.seat c).notes_is };
           }) j y e)
-          (record { keeper = λ c. absurd (false≢true c); seat = λ c. absurd (false≢true c) });
+          (record { registry = λ c. absurd (false≢true c); seat = λ c. absurd (false≢true c) });
       apart = two;
     }
   where

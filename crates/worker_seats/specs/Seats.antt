@@ -1,4 +1,4 @@
--- What passes outlive the lock with. The keeper's lies under the lock, and knows the log of all notes and
+-- What passes outlive the lock with. The registry's lies under the lock, and knows the log of all notes and
 -- what each session runs; a worker's seat knows what its own session runs, and its own notes. A note is of a
 -- call that is over: its worker and its job.
 use Rattle.std.specs.Prelude.{◌≡◌, ◌==◌, ◌<◌, ℕ, suc, List, [], ◌∷◌, ◌++◌, length, Option, Some, None, slice_get, slice_set, Bool, true, false, if◌then◌else◌}
@@ -29,9 +29,9 @@ notes_by worker log = notes_from 0 worker log
 abbrev pub known_by : CellSeat (Unit {0}) SeatView → SeatView
 known_by pass = pass.me.0
 
--- the view of a keeper, which sits for no session
-abbrev pub keeper_of : List (ℕ × ℕ) → List (Option ℕ) → SeatView
-keeper_of log running = record { keeps = true; log = log; running = running; sits = false; worker = 0; job = None; notes = [] }
+-- the view of a registry, which sits for no session
+abbrev pub registry_of : List (ℕ × ℕ) → List (Option ℕ) → SeatView
+registry_of log running = record { keeps = true; log = log; running = running; sits = false; worker = 0; job = None; notes = [] }
 
 -- the view of a seat: for this session, which runs this job or none, with these notes
 abbrev pub seat_view : Bool → ℕ → Option ℕ → List (ℕ × ℕ) → SeatView
@@ -41,20 +41,20 @@ seat_view sits worker job notes = record { keeps = false; log = []; running = []
 abbrev pub nobody : SeatView
 nobody = seat_view false 0 None []
 
--- the keeper's view with that of a seat beside it
+-- the registry's view with that of a seat beside it
 abbrev pub beside : SeatView → SeatView → SeatView
-beside keeper seat = record seat { keeps = keeper.keeps; log = keeper.log; running = keeper.running }
+beside registry seat = record seat { keeps = registry.keeps; log = registry.log; running = registry.running }
 
--- the keeper's part of such a view, and the seat's
-abbrev pub keeper_in : SeatView → SeatView
-keeper_in v = record nobody { keeps = v.keeps; log = v.log; running = v.running }
+-- the registry's part of such a view, and the seat's
+abbrev pub registry_in : SeatView → SeatView
+registry_in v = record nobody { keeps = v.keeps; log = v.log; running = v.running }
 
 abbrev pub seat_in : SeatView → SeatView
 seat_in v = seat_view v.sits v.worker v.job v.notes
 
--- the keeper's view with one session more, which runs nothing, and the view of that session's seat
-abbrev pub keeper_of_one_more : SeatView → SeatView
-keeper_of_one_more v = record (keeper_in v) { running = v.running ++ None ∷ [] }
+-- the registry's view with one session more, which runs nothing, and the view of that session's seat
+abbrev pub registry_of_one_more : SeatView → SeatView
+registry_of_one_more v = record (registry_in v) { running = v.running ++ None ∷ [] }
 
 abbrev pub seat_of_one_more : SeatView → SeatView
 seat_of_one_more v = seat_view true (length v.running) None (notes_by (length v.running) v.log)
@@ -72,8 +72,8 @@ after_note v job = record v {
   notes = v.notes ++ (length v.log, job) ∷ [];
 }
 
--- a keeper is the pass of this number, and knows this log and what each session runs
-pub record KeeperFits (desk : ℕ) (log : List (ℕ × ℕ)) (running : List (Option ℕ)) (pass : ℕ) (v : SeatView) : Type 0 where
+-- a registry is the pass of this number, and knows this log and what each session runs
+pub record RegistryFits (desk : ℕ) (log : List (ℕ × ℕ)) (running : List (Option ℕ)) (pass : ℕ) (v : SeatView) : Type 0 where
   pub desk_is : pass ≡ desk
   pub log_is : v.log ≡ log
   pub running_is : v.running ≡ running
@@ -85,7 +85,7 @@ pub record SeatFits (log : List (ℕ × ℕ)) (running : List (Option ℕ)) (v :
 
 -- what a pass knows fits, as far as it keeps or sits
 pub record ViewFits (desk : ℕ) (log : List (ℕ × ℕ)) (running : List (Option ℕ)) (pass : ℕ) (v : SeatView) : Type 0 where
-  pub keeper : v.keeps ≡ true → KeeperFits desk log running pass v
+  pub registry : v.keeps ≡ true → RegistryFits desk log running pass v
   pub seat : v.sits ≡ true → SeatFits log running v
 
 -- no two passes sit for one session
@@ -94,7 +94,7 @@ SitApart views =
     (i j : ℕ) (u v : SeatView) → get_elem? views i ≡ some u → get_elem? views j ≡ some v
     → u.sits ≡ true → v.sits ≡ true → u.worker ≡ v.worker → i ≡ j
 
--- The rule of the seats: there is one keeper at most, and one log and one list of what each
+-- The rule of the seats: there is one registry at most, and one log and one list of what each
 -- session runs that all views fit.
 pub record SeatsFit (views : List SeatView) : Type 0 where
   pub desk : ℕ
@@ -111,7 +111,7 @@ SeatHasStarted s v found w = w ≡ (after_start v.0 s.first, v.1)
 abbrev pub HasNoted : Step (Unit {0}) → Me (Unit {0}) SeatView → ℕ → Me (Unit {0}) SeatView → Type 0
 HasNoted s v found w = w ≡ (after_note v.0 s.first, v.1)
 
--- a look at the cell tells a keeper that the seat beside it fits
+-- a look at the cell tells a registry that the seat beside it fits
 pub record HasChecked (s : Step (Unit {0})) (v : Me (Unit {0}) SeatView) (found : ℕ) (w : Me (Unit {0}) SeatView) : Type 0 where
   pub same : w ≡ v
   pub fits : (v.0).sits ≡ true → SeatFits (v.0).log (v.0).running v.0

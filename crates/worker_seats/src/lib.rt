@@ -3,7 +3,7 @@
 //!
 //! Each job number is handed out by a queue, whose rule says that what was pushed is what was popped and what
 //! it holds. Each worker has a seat, which says what its session runs and which notes of the log are its own;
-//! the keeper, which lies beside the log, says the whole. With the workers' shares of a ledger, these give
+//! the registry, which lies beside the log, says the whole. With the workers' shares of a ledger, these give
 //! that each job stands in the log once.
 #![tactic(auto)]
 

@@ -1,13 +1,13 @@
 //! The cell that ties what the workers know to what lies under the lock.
 
 ghost use Rattle.std.specs.Prelude.{◌≡◌, [], IfSome};
-ghost use Rattle.worker_seats.specs.Seats.{keeper_of, known_by};
+ghost use Rattle.worker_seats.specs.Seats.{registry_of, known_by};
 
 use atomic_table::{Join, Play, Seat, Split, Table, TableRule};
 use std::alloc::Global;
 use std::collections::LinkedList;
 
-/// What a pass of the cell knows. A keeper: the log of all notes, and which job each session runs. A seat:
+/// What a pass of the cell knows. A registry: the log of all notes, and which job each session runs. A seat:
 /// its session, which job that runs, and the places and jobs of its notes. No value of it is made.
 pub struct SeatView {
     pub keeps: bool,
@@ -24,11 +24,11 @@ pub struct SeatRule;
 
 impl TableRule<(), SeatView, ()> for SeatRule {
     ghost use Rattle.std.specs.Prelude.{[]};
-    ghost use Rattle.worker_seats.specs.Seats.{keeper_of, SeatsFit};
+    ghost use Rattle.worker_seats.specs.Seats.{registry_of, SeatsFit};
 
     ghost holds = { λ key s. SeatsFit s.views };
 
-    ghost first = { λ key. keeper_of [] [] };
+    ghost first = { λ key. registry_of [] [] };
 }
 
 /// A call begins.
@@ -58,13 +58,13 @@ impl Play<(), SeatView> for Checks {
     ghost then = { HasChecked };
 }
 
-/// A seat comes beside the keeper, and leaves it.
+/// A seat comes beside the registry, and leaves it.
 pub struct Sitting;
 
 impl Split<SeatView> for Sitting {
-    ghost use Rattle.worker_seats.specs.Seats.{keeper_in, seat_in};
+    ghost use Rattle.worker_seats.specs.Seats.{registry_in, seat_in};
 
-    ghost left = { keeper_in };
+    ghost left = { registry_in };
 
     ghost right = { seat_in };
 }
@@ -81,9 +81,9 @@ impl Join<SeatView> for Sitting {
 pub struct Opening;
 
 impl Split<SeatView> for Opening {
-    ghost use Rattle.worker_seats.specs.Seats.{keeper_of_one_more, seat_of_one_more};
+    ghost use Rattle.worker_seats.specs.Seats.{registry_of_one_more, seat_of_one_more};
 
-    ghost left = { keeper_of_one_more };
+    ghost left = { registry_of_one_more };
 
     ghost right = { seat_of_one_more };
 }
@@ -91,15 +91,15 @@ impl Split<SeatView> for Opening {
 /// The cell of the seats.
 pub type SeatCell = Table<(), SeatView, (), SeatRule, Global>;
 
-/// A pass of the cell: a worker's, or the keeper's.
+/// A pass of the cell: a worker's, or the registry's.
 pub type SeatPass = Seat<(), SeatView>;
 
-/// A cell of seats, with the keeper's pass, which knows of no note and no session. None if there is no memory
-/// for it.
+/// A cell of seats, with the registry's pass, which knows of no note and no session. None if there is no
+/// memory for it.
 pub fn make_cell(alloc: Global) -> Option<(SeatCell, SeatPass)>
     ensures cell { IfSome result (λ c. c.1.table_id ≡ c.0.shared.table_id) }
     ensures word { IfSome result (λ c. c.0.shared.table_id.words ≡ 1) }
-    ensures keeper { IfSome result (λ c. known_by c.1 ≡ keeper_of [] []) }
+    ensures registry { IfSome result (λ c. known_by c.1 ≡ registry_of [] []) }
 {
     SeatCell::of_words(alloc, &[0], &()).ok()
 }

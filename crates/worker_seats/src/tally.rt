@@ -20,7 +20,7 @@ pub fn tally_up<J: Run, T>(
     mut all: Share<J>,
     pass: &QueuePass<T>,
 )
-    requires counted { book.old.total ≡ length (known_by desk.old.keeper).log }
+    requires counted { book.old.total ≡ length (known_by desk.old.registry).log }
     requires ranked { (k : ℕ) → IfSome (slice_get seats.items k) (λ s. s.worker ≡ k) }
     requires rests { (k : ℕ) → IfSome (slice_get seats.items k)
         (λ s. (known_by s.pass).job ≡ None) }
@@ -30,18 +30,18 @@ pub fn tally_up<J: Run, T>(
     requires empty { KnowsAll (view pass.now) [] }
     requires popped { (h : ℕ → ℕ) → weigh h (view pass.now).popped
         ≡ sum_over (λ s. weigh h (jobs_in (known_by s.pass).notes)) seats.items }
-    ensures keeper { known_by desk.new.keeper ≡ known_by desk.old.keeper }
+    ensures registry { known_by desk.new.registry ≡ known_by desk.old.registry }
     ensures notes { (k : ℕ) → IfSome (slice_get seats.items k)
-        (λ s. (known_by s.pass).notes ≡ notes_by k (known_by desk.old.keeper).log) }
+        (λ s. (known_by s.pass).notes ≡ notes_by k (known_by desk.old.registry).log) }
     ensures sum { sum_below (vec_len seats)
-        (λ w. length (notes_by w (known_by desk.old.keeper).log))
-        ≡ length (known_by desk.old.keeper).log }
+        (λ w. length (notes_by w (known_by desk.old.registry).log))
+        ≡ length (known_by desk.old.registry).log }
     ensures idle { (k : ℕ) → k < vec_len seats
-        → slice_get (known_by desk.old.keeper).running k ≡ Some None }
+        → slice_get (known_by desk.old.registry).running k ≡ Some None }
     ensures all { (h : ℕ → ℕ) → weigh h (below (view pass.now).pushed)
-        ≡ weigh h (jobs_in (known_by desk.old.keeper).log) }
+        ≡ weigh h (jobs_in (known_by desk.old.registry).log) }
     ensures once { (job : ℕ) → job < (view pass.now).pushed
-        → times job (jobs_in (known_by desk.old.keeper).log) ≡ 1 }
+        → times job (jobs_in (known_by desk.old.registry).log) ≡ 1 }
 {
     for seat in seats {
         let seat = check(desk, seat);

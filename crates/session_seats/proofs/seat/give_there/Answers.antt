@@ -5,7 +5,7 @@ use Rattle.session_seats.proofs.seat.give_there.Goals as goal
 
 pub compare_exchange_with-requires : goal.compare_exchange_with-requires
 compare_exchange_with-requires g =
-    (g.requires.of, g.requires.word, gives_allows _ _ g.args.keeper.now.me.0 g.args.keeper.now.me.1 (λ n. either (n == 0) 0 n) 0 0 0 g.args.notice.now g.requires.keeps g.requires.sits)
+    (g.requires.of, g.requires.word, gives_allows _ _ g.args.registry.now.me.0 g.args.registry.now.me.1 (λ n. either (n == 0) 0 n) 0 0 0 g.args.notice.now g.requires.keeps g.requires.sits)
 
 pub returns-clause-known : goal.returns-clause-known
 returns-clause-known c = ap (λ w. w.0) (c.compare_exchange_with.ensures.2 c.args.notice.now refl)

@@ -5,4 +5,4 @@ use Rattle.session_seats.proofs.seat.open.Goals as goal
 pub split_seat-pass-requires : goal.split_seat-pass-requires
 split_seat-pass-requires g c =
     let desk = c.args.desk.now in
-    (desk.own ∙ sym desk.seats.of, desk.seats.word, widens _ _ (keeps_as _ _ c.requires.keeper refl))
+    (desk.own ∙ sym desk.seats.of, desk.seats.word, widens _ _ (keeps_as _ _ c.requires.registry refl))

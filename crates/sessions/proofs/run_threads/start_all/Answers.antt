@@ -1,6 +1,6 @@
 use Rattle.std.proofs.Common.{◌≡◌, ◌+◌, ◌++◌, ◌∷◌, [], List, Option, None, slice_get, IfSome, sym, ap, ◌∙◌, subst, arith}
 use Rattle.worker_seats.specs.declared.job_queue.QueueView.{QueueView}
-use Rattle.sessions.proofs.Imports.{SeatView, keeper_of, some_snoc, Pending, jobs_of}
+use Rattle.sessions.proofs.Imports.{SeatView, registry_of, some_snoc, Pending, jobs_of}
 use Rattle.sessions.proofs.Hiring.{jobs_of_snoc, none_snoc}
 use Rattle.sessions.proofs.run_threads.start_all.Goals as goal
 
@@ -14,7 +14,7 @@ loop-w-preserved g c =
     let v = c.another-mine.ensures.left in
     let items = c.push_reserved.ensures.items in
     let handles = c.loop-w.handles in (
-      c.open-seat.ensures.keeper ∙ ap (λ (x : SeatView). keeper_of [] (x.running ++ None ∷ [])) i.0 ∙ ap (keeper_of []) (sym (ap jobs_of items ∙ jobs_of_snoc pending.items None)),
+      c.open-seat.ensures.registry ∙ ap (λ (x : SeatView). registry_of [] (x.running ++ None ∷ [])) i.0 ∙ ap (registry_of []) (sym (ap jobs_of items ∙ jobs_of_snoc pending.items None)),
       (
         c.another-mine.ensures.queue,
         (let less = ap (λ (x : QueueView). x.parts) v in omega (arith, less, i.1.1, c.loop-w-test.true, c.requires.few)),

@@ -13,11 +13,11 @@ loop-session-preserved g c =
     let i = c.loop-session.invariant in
     let yielded = c.loop-session.yielded in
     let session = c.in-Some.session in
-    let log = (view_of c.args.desk.now.keeper).log in
+    let log = (view_of c.args.desk.now.registry).log in
     let look = c.check-seat.ensures in
     let its = look.calls ∙ ap (λ (v : SessionView). calls_by c.in-Some-seat.seat.session v.log) i.0 in
     let own : calls_had session.seat ≡ calls_by (number_of_seat session.seat) log = subst (λ o. calls_had o ≡ calls_by (number_of_seat o) log) (sym c.in-Some-seat.is) its in (
-      look.keeper ∙ i.0,
+      look.registry ∙ i.0,
       (λ k. subst (λ (l : List (ℕ × List (ℕ × CompletedCall))). IfSome (slice_get l k) (λ t. t.1 ≡ calls_by t.0 log)) (sym (map-append (λ s. told_by s) yielded (session ∷ [])))
           (some_snoc (λ n t. t.1 ≡ calls_by t.0 log) (all_told yielded) (told_by session) i.1 own k)),
     )

@@ -5,5 +5,5 @@ use Rattle.shared_index.proofs.close.check_all.Given as goal
 
 abbrev pub invariant-loop-session : goal.invariant-loop-session
 invariant-loop-session g l =
-    (view_of l.desk.keeper ≡ view_of l.initial.desk.keeper)
-    × AreOfLog (view_of l.initial.desk.keeper).log (all_told l.yielded)
+    (view_of l.desk.registry ≡ view_of l.initial.desk.registry)
+    × AreOfLog (view_of l.initial.desk.registry).log (all_told l.yielded)

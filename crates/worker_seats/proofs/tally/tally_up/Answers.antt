@@ -33,21 +33,21 @@ loop-seat-preserved g c =
     let here : s.worker ≡ length yielded = some_middle (λ n s. s.worker ≡ n) yielded s after ranked in
     let none : (known_by s.pass).job ≡ None = some_middle (λ n s. (known_by s.pass).job ≡ None) yielded s after rests in
     let more : length (yielded ++ s ∷ []) ≡ length yielded + 1 = length-append yielded (s ∷ []) in
-    let log = (known_by c.args.desk.now.keeper).log in
+    let log = (known_by c.args.desk.now.registry).log in
     let f : ℕ → ℕ = λ w. length (notes_by w log) in
     let share = c.check-seat.result.share in
     let notes : (known_by s.pass).notes ≡ notes_by (length yielded) log = c.check-seat.ensures.notes
-    ∙ same_notes (known_by c.loop-seat.desk.keeper) (known_by c.args.desk.now.keeper) s.worker (length yielded) i.0 here in
+    ∙ same_notes (known_by c.loop-seat.desk.registry) (known_by c.args.desk.now.registry) s.worker (length yielded) i.0 here in
     let has : share.amount ≡ f (length yielded) = c.check-seat.result.counted ∙ ap (λ (v : SeatView). length v.notes) c.check-seat.ensures.view ∙ ap length notes in
     let one = c.check-seat.result.part in (
-      c.check-seat.ensures.keeper ∙ i.0,
+      c.check-seat.ensures.registry ∙ i.0,
       (λ k. subst (λ l. IfSome (slice_get l k) (λ s. s.worker ≡ k)) (sym (append_assoc yielded (s ∷ []) after)) (ranked k)),
       (λ k. subst (λ l. IfSome (slice_get l k) (λ s. (known_by s.pass).job ≡ None)) (sym (append_assoc yielded (s ∷ []) after)) (rests k)),
       omega (arith, c.merge.ensures.parts, one, i.3, fewer),
       omega (arith, more, i.4, fewer),
       (let o = sum_more (length yielded) (length (yielded ++ s ∷ [])) f more in c.merge.ensures.amount ∙ (λ j. i.5 j + has j) ∙ sym o),
       (λ k l. ⊎_elim
-          (λ (e : k ≡ length yielded). same_running (known_by c.loop-seat.desk.keeper) (known_by c.args.desk.now.keeper) s.worker k (known_by s.pass).job i.0 (here ∙ sym e) c.check-seat.ensures.job none)
+          (λ (e : k ≡ length yielded). same_running (known_by c.loop-seat.desk.registry) (known_by c.args.desk.now.registry) s.worker k (known_by s.pass).job i.0 (here ∙ sym e) c.check-seat.ensures.job none)
           (λ (m : k < length yielded). i.6 k m)
           (last_of k (length yielded) (length (yielded ++ s ∷ [])) more l)),
       (λ h.
@@ -67,7 +67,7 @@ pub returns-clause-notes : goal.returns-clause-notes
 returns-clause-notes g c k =
     let i = c.loop-seat.invariant in
     let yielded = c.loop-seat.yielded in
-    let log = (known_by c.args.desk.now.keeper).log in
+    let log = (known_by c.args.desk.now.registry).log in
     let rest = c.loop-seat.seat-iterator.rest in
     let none : rest.items ≡ [] = nil_from_length rest.items (sym rest.ok.0 ∙ c.in-None.ensures.steps.0) in
     let all : yielded ≡ c.args.seats.items = sym (append-nil yielded) ∙ ap (λ l. yielded ++ l) (sym none) ∙ i.8 in
@@ -77,7 +77,7 @@ pub returns-clause-all : goal.returns-clause-all
 returns-clause-all g c =
     let i = c.loop-seat.invariant in
     let yielded = c.loop-seat.yielded in
-    let log = (known_by c.args.desk.now.keeper).log in
+    let log = (known_by c.args.desk.now.registry).log in
     let rest = c.loop-seat.seat-iterator.rest in
     let ended : rest.len ≡ 0 = c.in-None.ensures.steps.0 in
     let none : rest.items ≡ [] = nil_from_length rest.items (sym rest.ok.0 ∙ ended) in
@@ -92,7 +92,7 @@ pub returns-clause-once : goal.returns-clause-once
 returns-clause-once g c =
     let i = c.loop-seat.invariant in
     let yielded = c.loop-seat.yielded in
-    let log = (known_by c.args.desk.now.keeper).log in
+    let log = (known_by c.args.desk.now.registry).log in
     let rest = c.loop-seat.seat-iterator.rest in
     let ended : rest.len ≡ 0 = c.in-None.ensures.steps.0 in
     let none : rest.items ≡ [] = nil_from_length rest.items (sym rest.ok.0 ∙ ended) in

@@ -1,6 +1,6 @@
 use Rattle.std.proofs.Common.{◌≡◌, ℕ, map, ◌++◌, ◌∷◌, [], Some, None, true, false, length, slice_set, refl, sym, ap, ◌∙◌, subst}
 use Rattle.session_seats.specs.Calls.{begun_by, completed_by, completed_of}
-use Rattle.session_seats.specs.Seats.{keeper_with, view_of}
+use Rattle.session_seats.specs.Seats.{registry_with, view_of}
 use Rattle.session_seats.specs.declared.seating.SessionView.{SessionView}
 use Rattle.shared_world.specs.Leaving.{LeavesCall, call_begun}
 use Rattle.shared_world.proofs.Imports.{Event, inside, PendingCall, IsEventDone}
@@ -20,13 +20,13 @@ invariant_of-self g c =
     let s = c.args.seat.session in
     let one = c.one-answer.ensures in
     let look = c.check-seat.ensures in
-    let k = view_of self.desk.keeper in
+    let k = view_of self.desk.registry in
     let p : PendingCall = call_begun c.args.asked rows c.actions-from.result (length (log_in self)) in
     in_order self c.one-answer.new.self
     (begun_leaves self c.one-answer.new.self (is_next g.T.DeadRows g.met.S.PageStore.laws one.steps one.same) s p (look.call ∙ ap Some c.requires.idle) c.beginning.result
     c.beginning.ensures c.one-answer.result one.goes one.always c.actions-from.ensures refl refl refl (begun_is c.one-answer.result (sym c.is_begun.ensures ∙ c.if-is_begun.true)))
-    (begun_view k _ s _ look.keeper look.session c.notice-said.result now c.begin_naming-seat.ensures.keeper
-    ∙ (λ i. keeper_with k.log (slice_set k.pending s (Some (begun_by (named i) (c.notice-said.ensures i) (length k.log))))))
+    (begun_view k _ s _ look.registry look.session c.notice-said.result now c.begin_naming-seat.ensures.registry
+    ∙ (λ i. registry_with k.log (slice_set k.pending s (Some (begun_by (named i) (c.notice-said.ensures i) (length k.log))))))
 
 pub invariant_of-self-2 : goal.invariant_of-self-2
 invariant_of-self-2 g c =
@@ -37,14 +37,14 @@ invariant_of-self-2 g c =
     let s = c.args.seat.session in
     let one = c.one-answer.ensures in
     let look = c.check-seat.ensures in
-    let k = view_of self.desk.keeper in
+    let k = view_of self.desk.registry in
     let idle = look.call ∙ ap Some c.requires.idle in
     let p : PendingCall = call_begun c.args.asked rows c.actions-from.result (length (log_in self)) in
     in_order self c.one-answer.new.self
     (done_leaves self c.one-answer.new.self (is_next g.T.DeadRows g.met.S.PageStore.laws one.steps one.same) s p idle c.beginning.result
     c.beginning.ensures c.one-answer.result one.goes one.always c.actions-from.ensures refl refl refl c.refused_calls_fit.ensures (not_begun c.one-answer.result (sym c.is_begun.ensures ∙ c.if-is_begun.false)))
-    (done_view k _ s _ look.keeper look.session c.notice-said.result now c.begin_naming-seat.ensures.keeper c.begin_naming-seat.ensures.session c.begin_naming-seat.ensures.call c.end-seat.ensures.keeper
-    ∙ (λ i. keeper_with (k.log ++ completed_of s (begun_by (named i) (c.notice-said.ensures i) (length k.log)) (c.notice-said.ensures i).answer (c.notice-said.ensures i).at ∷ []) (set_same k.pending s None idle i)))
+    (done_view k _ s _ look.registry look.session c.notice-said.result now c.begin_naming-seat.ensures.registry c.begin_naming-seat.ensures.session c.begin_naming-seat.ensures.call c.end-seat.ensures.registry
+    ∙ (λ i. registry_with (k.log ++ completed_of s (begun_by (named i) (c.notice-said.ensures i) (length k.log)) (c.notice-said.ensures i).answer (c.notice-said.ensures i).at ∷ []) (set_same k.pending s None idle i)))
 
 pub returns-then-is_begun-clause-told : goal.returns-then-is_begun-clause-told
 returns-then-is_begun-clause-told g c =
@@ -55,14 +55,14 @@ returns-then-is_begun-clause-told g c =
     let s = c.args.seat.session in
     let look = c.check-seat.ensures in
     let said = c.notice-said.ensures in
-    let k = view_of self.desk.keeper in
-    let n = view_of c.begin_naming-seat.new.desk.keeper in
+    let k = view_of self.desk.registry in
+    let n = view_of c.begin_naming-seat.new.desk.registry in
     let v = view_of c.args.seat.pass in
     let y = view_of c.begin_naming-seat.result.pass in
-    let view = begun_view k _ s _ look.keeper look.session c.notice-said.result now c.begin_naming-seat.ensures.keeper
-    ∙ (λ i. keeper_with k.log (slice_set k.pending s (Some (begun_by (named i) (said i) (length k.log))))) in
+    let view = begun_view k _ s _ look.registry look.session c.notice-said.result now c.begin_naming-seat.ensures.registry
+    ∙ (λ i. registry_with k.log (slice_set k.pending s (Some (begun_by (named i) (said i) (length k.log))))) in
     let leaves = runs_leaves k n v y s (call_begun c.args.asked rows c.actions-from.result (length k.log)) c.one-answer.result c.actions-from.result view
-    (c.begin_naming-seat.ensures.call ∙ (λ i. Some (begun_by (named i) (said i) (length (look.keeper i).log)))) (c.begin_naming-seat.ensures.calls ∙ ap (λ (u : SessionView). u.calls) look.view) in
+    (c.begin_naming-seat.ensures.call ∙ (λ i. Some (begun_by (named i) (said i) (length (look.registry i).log)))) (c.begin_naming-seat.ensures.calls ∙ ap (λ (u : SessionView). u.calls) look.view) in
     rw (c.turn.ensures.answer, c.turn.ensures.over, c.turn.ensures.seat)
     (subst (λ (from : ℕ). LeavesCall s false (call_begun c.args.asked rows from (length k.log)) c.one-answer.result from k n v y) c.actions-from.ensures leaves)
 
@@ -75,15 +75,15 @@ returns-clause-told g c =
     let s = c.args.seat.session in
     let look = c.check-seat.ensures in
     let said = c.notice-said.ensures in
-    let k = view_of self.desk.keeper in
-    let l = view_of c.end-seat.new.desk.keeper in
+    let k = view_of self.desk.registry in
+    let l = view_of c.end-seat.new.desk.registry in
     let v = view_of c.args.seat.pass in
     let z = view_of c.end-seat.result.pass in
     let p : PendingCall = call_begun c.args.asked rows c.actions-from.result (length k.log) in
-    let begun = begun_view k _ s _ look.keeper look.session c.notice-said.result now c.begin_naming-seat.ensures.keeper in
-    let view = done_view k _ s _ look.keeper look.session c.notice-said.result now c.begin_naming-seat.ensures.keeper c.begin_naming-seat.ensures.session c.begin_naming-seat.ensures.call c.end-seat.ensures.keeper
-    ∙ (λ i. keeper_with (k.log ++ completed_of s (begun_by (named i) (said i) (length k.log)) (said i).answer (said i).at ∷ []) (slice_set k.pending s None)) in
-    let call = c.begin_naming-seat.ensures.call ∙ (λ i. Some (begun_by (named i) (said i) (length (look.keeper i).log))) in
+    let begun = begun_view k _ s _ look.registry look.session c.notice-said.result now c.begin_naming-seat.ensures.registry in
+    let view = done_view k _ s _ look.registry look.session c.notice-said.result now c.begin_naming-seat.ensures.registry c.begin_naming-seat.ensures.session c.begin_naming-seat.ensures.call c.end-seat.ensures.registry
+    ∙ (λ i. registry_with (k.log ++ completed_of s (begun_by (named i) (said i) (length k.log)) (said i).answer (said i).at ∷ []) (slice_set k.pending s None)) in
+    let call = c.begin_naming-seat.ensures.call ∙ (λ i. Some (begun_by (named i) (said i) (length (look.registry i).log))) in
     let calls = c.begin_naming-seat.ensures.calls ∙ ap (λ (u : SessionView). u.calls) look.view in
     let session = c.begin_naming-seat.ensures.session ∙ look.session in
     let leaves = over_leaves k l v z s p c.one-answer.result c.actions-from.result view c.end-seat.ensures.call

@@ -10,7 +10,7 @@ use Rattle.shared_world.proofs.live.Live.new.Goals as goal
 pub invariant_of-result : goal.invariant_of-result
 invariant_of-result g c =
     let now = inside g.T.DeadRows c.args.world in
-    let pending = (view_of c.args.desk.keeper).pending in
+    let pending = (view_of c.args.desk.registry).pending in
     let start = c.actions-start.result in
     record {
       kept = merely (λ honest contents acts calls stood.

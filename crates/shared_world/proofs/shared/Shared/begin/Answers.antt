@@ -1,13 +1,13 @@
 use Rattle.std.proofs.Common.{◌≡◌, ◌++◌, ◌∷◌, [], ℕ, Some, None, length, slice_get, slice_set, vec_capacity, refl, sym, ap, ◌∙◌, subst}
 use Rattle.shared_world.specs.Leaving.{call_begun}
-use Rattle.shared_world.proofs.Imports.{IsRoomOf, keeper_of, known_by, event_of, inside, Pending, Record, PendingCall, IsEventDone, record_of, pending_call}
+use Rattle.shared_world.proofs.Imports.{IsRoomOf, registry_of, known_by, event_of, inside, Pending, Record, PendingCall, IsEventDone, record_of, pending_call}
 use Rattle.shared_world.specs.Rows.{rows_in}
 use Rattle.shared_world.proofs.Words.{rows_asked}
 use Rattle.shared_world.proofs.Sharing.{asked_the_same}
 use Rattle.shared_world.proofs.Noting.{set_same}
 use Rattle.shared_world.proofs.Listing.{length_completed}
 use Rattle.shared_world.proofs.Beginning.{begins_no_end}
-use Rattle.shared_world.proofs.Serving.{keeper_in, idle_at, seat_there, session_is, call_is, leaves_at, place_within, served_on, served_done}
+use Rattle.shared_world.proofs.Serving.{registry_in, idle_at, seat_there, session_is, call_is, leaves_at, place_within, served_on, served_done}
 use Rattle.shared_world.proofs.shared.Shared.begin.Goals as goal
 
 pub take_seat-requires : goal.take_seat-requires
@@ -40,7 +40,7 @@ invariant_of-self g c =
     let handed = g.J.Origin.handed.sets in
     let rows = rows_asked (inside g.T.DeadRows self.live.world).sets c.args.asked in
     let named : rows ≡ rows_asked handed c.args.asked = ap rows_in (asked_the_same self.live c.args.asked self.stays) in
-    let p : PendingCall = call_begun c.args.asked rows (g.S.PageStore.state self.live.world.store).acts (length (keeper_in self).log) in
+    let p : PendingCall = call_begun c.args.asked rows (g.S.PageStore.state self.live.world.store).acts (length (registry_in self).log) in
     let long = ap length self.told ∙ length_completed handed self.history.items ∙ sym (c.len-seen.ensures ∙ self.history.ok.0) in
     let same : p ≡ pending_call handed q = (λ i. record { asked = c.args.asked; rows = named i; given = sym c.requires.given i; from = sym c.actions-from.ensures i; seen = long i }) ∙ ap (pending_call handed) (sym e) in
     let leaves = leaves_at self w None idle seat there c.if-over.true (sym c.actions-from.ensures) turn.ensures.told in
@@ -49,8 +49,8 @@ invariant_of-self g c =
     leaves same (subst (λ (x : Pending). slice_get g.J.Jobs.jobs x.job ≡ Some x.asked) (sym e) c.requires.job)
     (λ e. absurd (begins_no_end g.S.PageStore w c.args.asked turn.result.answer _ _ always.always e))
     (sym (set_same self.pending.items w None idle)) c.push_reserved.ensures.items c.record.ensures c.push_reserved.ensures.len c.push_reserved.ensures.capacity
-    c.end-seat.ensures.book c.check-seat.ensures.keeper c.check-seat.ensures.worker
-    (c.end-seat.ensures.keeper ∙ (λ i. keeper_of ((known_by c.check-seat.new.desk.keeper).log ++ (c.check-seat.result.worker, job i) ∷ []) (slice_set (known_by c.check-seat.new.desk.keeper).running c.check-seat.result.worker None)))
+    c.end-seat.ensures.book c.check-seat.ensures.registry c.check-seat.ensures.worker
+    (c.end-seat.ensures.registry ∙ (λ i. registry_of ((known_by c.check-seat.new.desk.registry).log ++ (c.check-seat.result.worker, job i) ∷ []) (slice_set (known_by c.check-seat.new.desk.registry).running c.check-seat.result.worker None)))
 
 pub invariant_of-self-2 : goal.invariant_of-self-2
 invariant_of-self-2 g c =
@@ -67,14 +67,14 @@ invariant_of-self-2 g c =
     let handed = g.J.Origin.handed.sets in
     let rows = rows_asked (inside g.T.DeadRows self.live.world).sets c.args.asked in
     let named : rows ≡ rows_asked handed c.args.asked = ap rows_in (asked_the_same self.live c.args.asked self.stays) in
-    let p : PendingCall = call_begun c.args.asked rows (g.S.PageStore.state self.live.world.store).acts (length (keeper_in self).log) in
+    let p : PendingCall = call_begun c.args.asked rows (g.S.PageStore.state self.live.world.store).acts (length (registry_in self).log) in
     let long = ap length self.told ∙ length_completed handed self.history.items ∙ sym (c.len-seen.ensures ∙ self.history.ok.0) in
     let same : p ≡ pending_call handed q = (λ i. record { asked = c.args.asked; rows = named i; given = sym c.requires.given i; from = sym c.actions-from.ensures i; seen = long i }) ∙ ap (pending_call handed) (sym e) in
     let leaves = leaves_at self w None idle seat there c.if-over.false refl turn.ensures.told in
-    let v = c.check-seat.ensures.keeper ∙ self.knows in
+    let v = c.check-seat.ensures.registry ∙ self.knows in
     served_on self w None idle seat there turn.result.seat c.take_seat.ensures.taken c.put_seat.ensures.put turn.ensures.session q leaves same
     (subst (λ (x : Pending). slice_get g.J.Jobs.jobs x.job ≡ Some x.asked) (sym e) c.requires.job) (subst (λ (x : Pending). IsRoomOf x.asked (vec_capacity x.given)) (sym e) c.requires.holds)
-    refl (c.start-seat.ensures.keeper ∙ (λ i. keeper_of (v i).log (slice_set (v i).running (c.check-seat.ensures.worker i) (Some (job i)))))
+    refl (c.start-seat.ensures.registry ∙ (λ i. registry_of (v i).log (slice_set (v i).running (c.check-seat.ensures.worker i) (Some (job i)))))
 
 pub returns-then-over-clause-event : goal.returns-then-over-clause-event
 returns-then-over-clause-event g c =

@@ -58,7 +58,7 @@ invariant_of-self g c =
     (leaves_at self w (Some q) here.found seat there refl (sym c.actions-until.ensures) out.ensures.told) (call_in_is self w q here.found seat there) (self.booked.running w q here.found)
     (λ e. full_room self w q here.found _ asked full)
     (ap (slice_set self.pending.items w) c.take.ensures.after) c.push_reserved.ensures.items c.record.ensures c.push_reserved.ensures.len c.push_reserved.ensures.capacity
-    c.end-seat.ensures.book c.check-seat.ensures.keeper c.check-seat.ensures.worker c.end-seat.ensures.keeper
+    c.end-seat.ensures.book c.check-seat.ensures.registry c.check-seat.ensures.worker c.end-seat.ensures.registry
 
 pub returns-then-is_full-clause-event : goal.returns-then-is_full-clause-event
 returns-then-is_full-clause-event g c =
@@ -76,7 +76,7 @@ returns-then-is_full-clause-told g c =
 pub returns-then-is_full-clause-seat : goal.returns-then-is_full-clause-seat
 returns-then-is_full-clause-seat g c =
     let here = taken_out c.args.self.now c.args.seat.worker c.check-seat.ensures.job c.requires.runs c.index_mut.ensures.value c.take.ensures.value c.in-Some.is in
-    seat_noted c.args.self.now c.args.seat.worker here c.check-seat.ensures.keeper c.check-seat.ensures.view c.len-place.ensures c.end-seat.ensures.job c.end-seat.ensures.notes
+    seat_noted c.args.self.now c.args.seat.worker here c.check-seat.ensures.registry c.check-seat.ensures.view c.len-place.ensures c.end-seat.ensures.job c.end-seat.ensures.notes
 
 pub returns-clause-told : goal.returns-clause-told
 returns-clause-told g c =

@@ -1,5 +1,5 @@
 use Rattle.std.proofs.Common.{◌≡◌, ℕ, Some, refl, sym, ap, ◌∙◌, subst, arith}
-use Rattle.shared_world.proofs.Imports.{keeper_of, Next, inside, Pending, IsEventDone, given_more, pending_call, PendingCall, IsRoomOf, call_in, notes_of, view_of}
+use Rattle.shared_world.proofs.Imports.{registry_of, Next, inside, Pending, IsEventDone, given_more, pending_call, PendingCall, IsRoomOf, call_in, notes_of, view_of}
 use Rattle.shared_world.proofs.Noting.{set_same, set_twice}
 use Rattle.shared_world.proofs.Asking.{given_as_more}
 use Rattle.shared_world.proofs.Serving.{runs_at, taken_out, some_taken, seat_there, session_is, call_in_is, runs_call, leaves_at, place_within, runs_same, served_on, served_same, has_room}
@@ -17,7 +17,7 @@ invariant_of-self g c =
     let self = c.args.self.now in
     let w = c.args.seat.worker in
     let here = taken_out self w c.check-seat.ensures.job c.requires.runs c.index_mut.ensures.value c.take.ensures.value c.in-Some.is in
-    served_same self (set_twice self.pending.items w c.take.new.self (Some c.in-Some.running) ∙ set_same self.pending.items w (Some c.in-Some.running) here.found) c.check-seat.ensures.keeper
+    served_same self (set_twice self.pending.items w c.take.new.self (Some c.in-Some.running) ∙ set_same self.pending.items w (Some c.in-Some.running) here.found) c.check-seat.ensures.registry
 
 pub take_seat-requires : goal.take_seat-requires
 take_seat-requires g c =
@@ -60,7 +60,7 @@ invariant_of-self-2 g c =
     served_on self w (Some p) here.found seat there out.result.0 c.take_seat.ensures.taken c.put_seat.ensures.put out.ensures.session q
     (leaves_at self w (Some p) here.found seat there refl refl out.ensures.told) same (self.booked.running w p here.found)
     (subst (IsRoomOf p.asked) (sym c.keep_gift.ensures.capacity) (self.booked.room w p here.found))
-    (set_twice self.pending.items w c.take.new.self (Some q)) (c.check-seat.ensures.keeper ∙ self.knows ∙ ap (keeper_of (notes_of self.history.items)) (runs_same self w p here.found))
+    (set_twice self.pending.items w c.take.new.self (Some q)) (c.check-seat.ensures.registry ∙ self.knows ∙ ap (registry_of (notes_of self.history.items)) (runs_same self w p here.found))
 
 pub index_mut-requires-2 : goal.index_mut-requires-2
 index_mut-requires-2 g c = (runs_at c.args.self.now c.args.seat.worker c.check-seat.ensures.job c.requires.runs).1.inside

@@ -2,7 +2,7 @@ use Rattle.std.proofs.Common.{ℕ, Some, None, slice_set, refl, sym, ap, ◌∙�
 use Rattle.whole_calls.specs.Going.{CallIsRun}
 use Rattle.whole_calls.specs.Made.{IsMadeOf}
 use Rattle.whole_calls.specs.OneStep.{IsMadeAsStep, OneStepAlways, OneStepComesTo, OneStepIsRun}
-use Rattle.shared_world.proofs.Imports.{slot_of, keeper_of, inside, record_of, notes_of}
+use Rattle.shared_world.proofs.Imports.{slot_of, registry_of, inside, record_of, notes_of}
 use Rattle.shared_world.proofs.Noting.{set_same}
 use Rattle.shared_world.proofs.Stepping.{steps_no_end}
 use Rattle.shared_world.proofs.Serving.{runs_at, taken_out, some_taken, turn_recorded, seat_noted, seat_there, session_is, call_in_is, runs_call, runs_same, leaves_at, place_within, served_on, served_done}
@@ -48,7 +48,7 @@ invariant_of-self g c =
     (leaves_at self w (Some q) here.found seat there c.if-over.true (sym c.actions-to.ensures) turn.ensures.told) same (self.booked.running w q here.found)
     (λ e. absurd (steps_no_end (slot_of self.live.world.calls.slots.items seat.session) (slot_of turn.new.self.world.calls.slots.items seat.session) turn.result.answer turn.ensures.always.answers e))
     (ap (slice_set self.pending.items w) c.take.ensures.after) c.push_reserved.ensures.items c.record.ensures c.push_reserved.ensures.len c.push_reserved.ensures.capacity
-    c.end-seat.ensures.book c.check-seat.ensures.keeper c.check-seat.ensures.worker c.end-seat.ensures.keeper
+    c.end-seat.ensures.book c.check-seat.ensures.registry c.check-seat.ensures.worker c.end-seat.ensures.registry
 
 pub invariant_of-self-else-over : goal.invariant_of-self-else-over
 invariant_of-self-else-over g c =
@@ -62,7 +62,7 @@ invariant_of-self-else-over g c =
     let turn = c.step-turn in
     served_on self w (Some q) found seat there turn.result.seat c.take_seat.ensures.taken c.put_seat.ensures.put turn.ensures.session q
     (leaves_at self w (Some q) found seat there c.if-over.false refl turn.ensures.told) (call_in_is self w q found seat there) (self.booked.running w q found) (self.booked.room w q found)
-    (sym (set_same self.pending.items w (Some q) found)) (c.check-seat.ensures.keeper ∙ self.knows ∙ ap (keeper_of (notes_of self.history.items)) (runs_same self w q found))
+    (sym (set_same self.pending.items w (Some q) found)) (c.check-seat.ensures.registry ∙ self.knows ∙ ap (registry_of (notes_of self.history.items)) (runs_same self w q found))
 
 pub returns-then-over-clause-goes : goal.returns-then-over-clause-goes
 returns-then-over-clause-goes g c =
@@ -156,7 +156,7 @@ returns-then-over-clause-seat g c =
     let self = c.args.self.now in
     let here = taken_out self c.args.seat.worker c.check-seat.ensures.job c.requires.runs c.index_mut.ensures.value c.take.ensures.value c.in-Some.is in
     rw (c.told.ensures.place, c.told.ensures.seat)
-    (seat_noted self c.args.seat.worker here c.check-seat.ensures.keeper c.check-seat.ensures.view c.len-place.ensures c.end-seat.ensures.job c.end-seat.ensures.notes)
+    (seat_noted self c.args.seat.worker here c.check-seat.ensures.registry c.check-seat.ensures.view c.len-place.ensures c.end-seat.ensures.job c.end-seat.ensures.notes)
 
 pub returns-clause-told : goal.returns-clause-told
 returns-clause-told g c =
