@@ -31,3 +31,5 @@ mod shared_mixed;
 mod shared_rows;
 #[cfg(test)]
 mod shared_waits;
+#[cfg(test)]
+mod stages;

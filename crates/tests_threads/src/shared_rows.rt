@@ -6,12 +6,13 @@ ghost use Rattle.shared_index.specs.Sessions.{number_of_seat};
 use crate::indexes::{InMemory, SETS, all_entries, made, without_sets};
 use crate::lists::entry;
 use crate::plain::{ALL, is_left_sound};
+use crate::stages::Stages;
 use index_model::{Entry, Fault, Limits};
 use page_action::PageStore;
 use shared_index::{Client, NotPut, RowsDeleted, SharedIndex, SharedSession, serve};
 use shared_world::OriginOn;
 use std::process::Abort;
-use std::sync::{Condvar, CondvarTimeouts, Mutex, Wait};
+use std::sync::Wait;
 use std::test::{Fail, *};
 use std::thread::Threads;
 use std::time::{Clock, Duration};
@@ -169,44 +170,15 @@ fn each_deletes_rows_of_its_own(rt: HostRuntime) -> Result<(), Fail> {
     Ok(())
 }
 
-/// How far the threads are.
-#[derive(Drop)]
-struct Stage {
-    at: u32,
-}
-
 /// Threads of which the first rests in the middle of a scan, the next deletes rows beside it, and the third
 /// brings a set while that runs.
 #[derive(Drop)]
 struct Waiters<'a, R: Wait> {
     rt: &'a R,
-    stage: Mutex<Stage>,
-    moved: Condvar,
+    stages: Stages,
 }
 
 impl<'a, R: Wait + Clock + AllocGlobal> Waiters<'a, R> {
-    /// From now on threads are at this stage.
-    fn reach(&self, at: u32) {
-        {
-            let mut stage = self.stage.lock(self.rt);
-            stage.at = at;
-        }
-        self.moved.notify_all();
-    }
-
-    /// Waits for this stage; `Stopped` if it isn't reached in 20 seconds.
-    fn wait_for(&self, at: u32) -> Result<(), Fault> {
-        let stage = self.stage.lock(self.rt);
-        let limit = Duration::from_secs(20);
-        let (_stage, timed) = self
-            .moved
-            .wait_timeout_while(self.rt, stage, limit, |stage| stage.at < at);
-        if timed.timed_out() {
-            return Err(Fault::Stopped);
-        }
-        Ok(())
-    }
-
     /// Inserts three entries, of which block 100 has two, and scans them: one, then the others after the
     /// third stage. The last batch gives none: it only ends the scan, for which the bulk delete waits.
     fn read<S: PageStore, J: OriginOn<S>>(
@@ -228,8 +200,8 @@ impl<'a, R: Wait + Clock + AllocGlobal> Waiters<'a, R> {
             return Err(Fault::NoMemory);
         };
         let is_over = session.batch(self.rt, index, &mut first)?;
-        self.reach(1);
-        let waited = self.wait_for(3);
+        self.stages.reach(self.rt, 1);
+        let waited = self.stages.wait_for(self.rt, 3);
         let is_over_then = session.batch(self.rt, index, &mut rest)?;
         let count = rest.len();
         rest.clear();
@@ -247,14 +219,14 @@ impl<'a, R: Wait + Clock + AllocGlobal> Waiters<'a, R> {
     ) -> Result<bool, Fault>
         ensures { number_of_seat session.new.seat ≡ number_of_seat session.old.seat }
     {
-        self.wait_for(1)?;
+        self.stages.wait_for(self.rt, 1)?;
         session.set_patience(Some(Duration::ZERO));
         let blocked = session.delete_rows(self.rt, index, rows_of(100));
         let is_blocked = match &blocked {
             Ok(done) => matches!(&done.told, Err(Fault::Blocked(1))) && done.was.from == 1,
             Err(_) => false,
         };
-        self.reach(2);
+        self.stages.reach(self.rt, 2);
         session.set_patience(None);
         match session.delete_rows(self.rt, index, rows_of(100)) {
             Ok(done) => Ok(is_blocked && done.told?.tuples_removed == 2),
@@ -271,7 +243,7 @@ impl<'a, R: Wait + Clock + AllocGlobal> Waiters<'a, R> {
     ) -> Result<bool, Fault>
         ensures { number_of_seat session.new.seat ≡ number_of_seat session.old.seat }
     {
-        self.wait_for(2)?;
+        self.stages.wait_for(self.rt, 2)?;
         session.set_patience(Some(Duration::ZERO));
         let mut is_excluded = false;
         for _ in 0..10_000_000_u32 {
@@ -281,7 +253,7 @@ impl<'a, R: Wait + Clock + AllocGlobal> Waiters<'a, R> {
                 break;
             }
         }
-        self.reach(3);
+        self.stages.reach(self.rt, 3);
         Ok(is_excluded)
     }
 }
@@ -318,8 +290,7 @@ fn sets_wait_with_patience(rt: HostRuntime) -> Result<(), Fail> {
     let world = made(rt.alloc(), &limits, 3)?;
     let waiters = Waiters {
         rt: &rt,
-        stage: Mutex::new(Stage { at: 0 }),
-        moved: Condvar::new(),
+        stages: Stages::new(),
     };
     let served = match serve(&rt, rt.alloc(), world, 3, &waiters) {
         Ok(served) => served,

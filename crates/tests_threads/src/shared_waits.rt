@@ -6,13 +6,14 @@ ghost use Rattle.shared_index.specs.Sessions.{number_of_seat};
 use crate::indexes::{InMemory, all_entries, made};
 use crate::lists::entry;
 use crate::plain::{ALL, abandon};
+use crate::stages::Stages;
 use index_model::{DeadRows, Entry, Fault, Limits};
 use page_action::PageStore;
 use session_calls::Answer;
 use shared_index::{Client, SharedIndex, SharedSession, serve};
 use shared_world::OriginOn;
 use std::process::Abort;
-use std::sync::{Condvar, CondvarTimeouts, Mutex, Wait};
+use std::sync::Wait;
 use std::test::{Fail, *};
 use std::thread::Threads;
 use std::time::{Clock, Duration, Instant};
@@ -30,44 +31,15 @@ fn patience() -> Duration {
     Duration::from_millis(20)
 }
 
-/// How far the threads are.
-#[derive(Drop)]
-struct Stage {
-    at: u32,
-}
-
 /// Threads of which the first rests in the middle of a scan, the next deletes beside it, and the third
 /// cleans up beside that.
 #[derive(Drop)]
 struct Waiters<'a, R: Wait> {
     rt: &'a R,
-    stage: Mutex<Stage>,
-    moved: Condvar,
+    stages: Stages,
 }
 
 impl<'a, R: Wait + Clock + AllocGlobal> Waiters<'a, R> {
-    /// From now on threads are at this stage.
-    fn reach(&self, at: u32) {
-        {
-            let mut stage = self.stage.lock(self.rt);
-            stage.at = at;
-        }
-        self.moved.notify_all();
-    }
-
-    /// Waits for this stage; `Stopped` if it isn't reached in 20 seconds.
-    fn wait_for(&self, at: u32) -> Result<(), Fault> {
-        let stage = self.stage.lock(self.rt);
-        let limit = Duration::from_secs(20);
-        let (_stage, timed) = self
-            .moved
-            .wait_timeout_while(self.rt, stage, limit, |stage| stage.at < at);
-        if timed.timed_out() {
-            return Err(Fault::Stopped);
-        }
-        Ok(())
-    }
-
     /// Whether it is longer ago than the patience.
     fn has_waited(&self, since: Instant) -> bool {
         match since.elapsed(self.rt) {
@@ -104,8 +76,8 @@ impl<'a, R: Wait + Clock + AllocGlobal> Waiters<'a, R> {
             return Err(Fault::NoMemory);
         };
         let is_over = session.batch(self.rt, index, &mut first)?;
-        self.reach(1);
-        let waited = self.wait_for(3);
+        self.stages.reach(self.rt, 1);
+        let waited = self.stages.wait_for(self.rt, 3);
         let is_over_then = session.batch(self.rt, index, &mut rest)?;
         waited?;
         Ok(
@@ -141,12 +113,12 @@ impl<'a, R: Wait + Clock + AllocGlobal> Waiters<'a, R> {
     ) -> Result<bool, Fault>
         ensures { number_of_seat session.new.seat ≡ number_of_seat session.old.seat }
     {
-        self.wait_for(1)?;
+        self.stages.wait_for(self.rt, 1)?;
         let is_blocked = self.is_blocked(index, session, Duration::ZERO);
         let since = self.now()?;
         let is_blocked_later = self.is_blocked(index, session, patience());
         let has_waited = self.has_waited(since);
-        self.reach(2);
+        self.stages.reach(self.rt, 2);
         session.set_patience(None);
         let removed = session.bulk_delete(self.rt, index, 2)?.tuples_removed;
         Ok(is_blocked && is_blocked_later && has_waited && removed == 2)
@@ -179,14 +151,14 @@ impl<'a, R: Wait + Clock + AllocGlobal> Waiters<'a, R> {
     ) -> Result<bool, Fault>
         ensures { number_of_seat session.new.seat ≡ number_of_seat session.old.seat }
     {
-        self.wait_for(2)?;
+        self.stages.wait_for(self.rt, 2)?;
         let is_excluded = self.is_excluded(index, session);
         let since = self.now()?;
         session.set_patience(Some(patience()));
         let cleaned = session.clean_up(self.rt, index);
         let is_excluded_later = matches!(cleaned, Err(Fault::VacuumRunning));
         let has_waited = self.has_waited(since);
-        self.reach(3);
+        self.stages.reach(self.rt, 3);
         session.set_patience(None);
         let _stats = session.clean_up(self.rt, index)?;
         Ok(is_excluded && is_excluded_later && has_waited)
@@ -220,8 +192,7 @@ fn calls_wait_with_patience(rt: HostRuntime) -> Result<(), Fail> {
     let world = made(rt.alloc(), &LIMITS, 3)?;
     let waiters = Waiters {
         rt: &rt,
-        stage: Mutex::new(Stage { at: 0 }),
-        moved: Condvar::new(),
+        stages: Stages::new(),
     };
     let served = match serve(&rt, rt.alloc(), world, 3, &waiters) {
         Ok(served) => served,
