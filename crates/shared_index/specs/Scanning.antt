@@ -1,5 +1,5 @@
 -- A session's scan, from its beginning to its end.
-use Rattle.std.specs.Prelude.{◌≡◌, ◌<◌, ℕ, Bool, false, Option, Some, None, Result, Ok, Err, List, [], ◌∷◌, ◌++◌, length}
+use Rattle.std.specs.Prelude.{◌≡◌, ◌<◌, ℕ, suc, Bool, false, Option, Some, None, Result, Ok, Err, List, [], ◌∷◌, ◌++◌, length}
 use Rattle.std.specs.Option.{ForSome}
 use Rattle.index_model.specs.declared.entry.Entry.{Entry}
 use Rattle.index_model.specs.declared.fault.Fault.{Fault}
@@ -59,24 +59,28 @@ pub record HasTakenMore (over : Option Answer) (before after : List Entry) (old 
   pub after_is : after ≡ before ++ more
   pub leaves : ScanLeaves over more old new
 
+-- a scan has given as many entries as it may
+abbrev pub HasGivenMost : SessionView → Type 0
+HasGivenMost v = suc (length (call_in v).given) ≡ scan_room
+
 -- what is told of a scan that is open still: that there is no room, that it is blocked by a page, or that it
 -- may give no more
-abbrev pub TellsOpen : Result Bool Fault → Type 0
-TellsOpen (Ok over) = over ≡ false
-TellsOpen (Err (Blocked page)) = Unit {0}
-TellsOpen (Err BadLimits) = Unit {0}
-TellsOpen (Err fault) = ⊥
+abbrev pub TellsOpen : SessionView → Result Bool Fault → Type 0
+TellsOpen v (Ok over) = over ≡ false
+TellsOpen v (Err (Blocked page)) = Unit {0}
+TellsOpen v (Err BadLimits) = HasGivenMost v
+TellsOpen v (Err fault) = ⊥
 
 -- ... of one that is over, what it has answered
-abbrev pub BatchTells : Option Answer → Result Bool Fault → Type 0
-BatchTells None told = TellsOpen told
-BatchTells (Some answer) told = told ≡ told_of_scan answer
+abbrev pub BatchTells : Option Answer → SessionView → Result Bool Fault → Type 0
+BatchTells None v told = TellsOpen v told
+BatchTells (Some answer) v told = told ≡ told_of_scan answer
 
 -- a batch of the session's scan
 pub record HasGivenBatch (told : Result Bool Fault) (before after : List Entry) (old new : SessionView) : Type 0 where
   pub over : Option Answer
   pub taken : HasTakenMore over before after old new
-  pub told_is : BatchTells over told
+  pub told_is : BatchTells over new told
 
 -- a scan of this range is open, and has given nothing
 pub record HasBegunScan (range : Range) (old new : SessionView) : Type 0 where

@@ -1,6 +1,6 @@
 //! The handle that threads share.
 
-ghost use Rattle.std.specs.Prelude.{◌≡◌, ◌≤◌, [], true, false, None, Some, IfOk, IfErr, vec_len, vec_capacity};
+ghost use Rattle.std.specs.Prelude.{◌≡◌, ◌<◌, ◌≤◌, [], true, false, None, Some, IfOk, IfErr, vec_len, vec_capacity};
 ghost use Rattle.session_seats.specs.Seats.{view_of};
 ghost use Rattle.session_seats.specs.declared.job.Job.{Job as Asked};
 ghost use Rattle.shared_world.specs.Leaving.{RunsItsCall, call_in};
@@ -8,7 +8,7 @@ ghost use Rattle.session_seats.specs.declared.call.PendingCall.{PendingCall as R
 ghost use Rattle.session_seats.specs.declared.seating.SessionView.{SessionView};
 ghost use Rattle.shared_world.specs.Rows.{rows_in};
 ghost use Rattle.shared_index.specs.Results.{told_of_vacuum};
-ghost use Rattle.shared_index.specs.Scanning.{HasBegunScan, HasTakenMore, RunsScan, ScanIsOver, scan_room};
+ghost use Rattle.shared_index.specs.Scanning.{HasBegunScan, HasGivenMost, HasTakenMore, RunsScan, ScanIsOver, scan_room};
 ghost use Rattle.shared_index.specs.Sessions.{HasDeletedRows, HasHadCall, HoldLeaves, HoldMayGoOn, IsNoScan, IsNotPut};
 
 use crate::hold::HoldEnd;
@@ -275,6 +275,8 @@ impl<S: PageStore, T: DeadRows + Drop, J: OriginOn<S>> SharedIndex<S, T, J> {
         ensures session { result.seat.session ≡ seat.session }
         ensures room { vec_capacity given.new ≡ vec_capacity given.old }
         ensures count { result.over ≡ None → RunsScan result.count (view_of result.seat.pass) }
+        ensures most { result.over ≡ None → result.blocked ≡ None
+            → vec_len given.new < vec_capacity given.new → HasGivenMost (view_of result.seat.pass) }
         ensures taken { HasTakenMore result.over given.old.items given.new.items
             (view_of seat.pass) (view_of result.seat.pass) }
     {

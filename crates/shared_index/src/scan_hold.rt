@@ -1,9 +1,9 @@
 //! One hold of the lock: events of one session's scan.
 
-ghost use Rattle.std.specs.Prelude.{◌≡◌, ◌<◌, ◌+◌, ◌∷◌, [], true, None, IfSome, vec_len, vec_capacity};
+ghost use Rattle.std.specs.Prelude.{◌≡◌, ◌<◌, ◌+◌, ◌∷◌, [], true, false, None, IfSome, vec_len, vec_capacity};
 ghost use Rattle.session_seats.specs.Calls.{gift_of};
 ghost use Rattle.session_seats.specs.Seats.{view_of};
-ghost use Rattle.shared_index.specs.Scanning.{HasTakenMore, RunsScan, scan_room};
+ghost use Rattle.shared_index.specs.Scanning.{HasGivenMost, HasTakenMore, RunsScan, scan_room};
 
 use crate::hold::blocked_by;
 use index_model::{DeadRows, Entry};
@@ -109,6 +109,8 @@ pub fn take<S: PageStore, T: DeadRows + Drop, J: OriginOn<S>>(
     ensures room { vec_capacity given.new ≡ vec_capacity given.old }
     ensures count { result.turn.over ≡ None
         → RunsScan result.turn.count (view_of result.turn.seat.pass) }
+    ensures most { result.goes_on ≡ false → result.turn.over ≡ None
+        → vec_len given.new < vec_capacity given.new → HasGivenMost (view_of result.turn.seat.pass) }
     ensures taken { HasTakenMore result.turn.over given.old.items given.new.items
         (view_of seat.pass) (view_of result.turn.seat.pass) }
 {
