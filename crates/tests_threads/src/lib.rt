@@ -22,6 +22,10 @@ mod plain;
 #[cfg(test)]
 mod runs;
 #[cfg(test)]
+mod serving;
+#[cfg(test)]
+mod session;
+#[cfg(test)]
 mod shared;
 #[cfg(test)]
 mod shared_failing;

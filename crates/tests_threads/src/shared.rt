@@ -3,11 +3,13 @@
 ghost use Rattle.std.specs.Prelude.{◌≡◌};
 ghost use Rattle.shared_index.specs.Sessions.{number_of_seat};
 
-use crate::indexes::{InMemory, all_entries, made};
+use crate::indexes::made;
 use crate::lists::entry;
+use crate::serving::{entries_left, served};
+use crate::session::{bulk_delete, commit, insert};
 use index_model::{DeadRows, Entry, Fault, Limits};
 use page_action::PageStore;
-use shared_index::{Client, SharedIndex, SharedSession, serve};
+use shared_index::{Client, SharedIndex, SharedSession};
 use shared_world::OriginOn;
 use std::process::Abort;
 use std::sync::Wait;
@@ -67,13 +69,13 @@ impl<'a, R: Wait + Clock> Writers<'a, R> {
             removed: 0,
         };
         for place in 0..EACH {
-            session.insert(self.rt, index, entry_of(number, place))?;
+            insert(self.rt, index, session, entry_of(number, place))?;
             told.inserted = told.inserted.saturating_add(1);
             if place % 10 == 9 {
-                told.durable = session.commit(self.rt, index)?;
+                told.durable = commit(self.rt, index, session)?;
             }
             if place == 50 && number == 4 {
-                told.removed = session.bulk_delete(self.rt, index, 2)?.tuples_removed;
+                told.removed = bulk_delete(self.rt, index, session, 2)?;
             }
         }
         Ok(told)
@@ -95,27 +97,29 @@ impl<'a, S: PageStore, T: DeadRows + Drop, R: Wait + Clock> Client<S, T> for Wri
     }
 }
 
+/// How many entries the threads inserted in all, and how many they removed.
+fn sums(outs: Vec<Result<Told, Fault>>) -> Result<(u64, u64), Fault> {
+    let mut inserted: u64 = 0;
+    let mut removed: u64 = 0;
+    for told in outs {
+        let told = told?;
+        inserted = inserted.saturating_add(u64::from(told.inserted));
+        removed = removed.saturating_add(told.removed);
+    }
+    Ok((inserted, removed))
+}
+
 /// What eight threads were told is what the index has: each entry that was inserted, but for those that the
 /// bulk delete removed.
 #[test]
 fn eight_threads_share_an_index(rt: HostRuntime) -> Result<(), Fail> {
     let world = made(rt.alloc(), &LIMITS, THREADS)?;
-    let served = match serve(&rt, rt.alloc(), world, THREADS, &Writers { rt: &rt }) {
-        Ok(served) => served,
-        Err(not_served) => return Err(Fail::from(not_served.fault)),
-    };
-    assert!(rt; served.idle);
-    assert_eq!(rt; served.outs.len(), THREADS as usize);
-    let mut inserted: u64 = 0;
-    let mut removed: u64 = 0;
-    for told in served.outs {
-        let told = told?;
-        inserted = inserted.saturating_add(u64::from(told.inserted));
-        removed = removed.saturating_add(told.removed);
-    }
+    let (outs, world, idle) = served(&rt, world, THREADS, &Writers { rt: &rt })?;
+    let entries = entries_left(rt.alloc(), world)?;
+    assert!(rt; idle);
+    assert_eq!(rt; outs.len(), THREADS as usize);
+    let (inserted, removed) = sums(outs)?;
     assert_eq!(rt; inserted, 800);
-    let mut world: InMemory = served.world;
-    let entries = all_entries(rt.alloc(), &mut world)?;
     assert_eq!(rt; entries.len() as u64, inserted.saturating_sub(removed));
     Ok(())
 }

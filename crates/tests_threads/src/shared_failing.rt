@@ -8,10 +8,12 @@ use crate::indexes::InMemory;
 use crate::judge::Addition;
 use crate::lists::entry;
 use crate::plain::{ALL, actions};
+use crate::serving::served;
+use crate::session::{batch, bulk_delete, checkpoint, clean_up, commit, insert, leave_scan, scan};
 use device::CrashImage;
 use index_model::{DeadRows, Fault};
 use page_action::PageStore;
-use shared_index::{Client, SharedIndex, SharedSession, serve};
+use shared_index::{Client, SharedIndex, SharedSession};
 use shared_world::OriginOn;
 use std::alloc::Global;
 use std::process::Abort;
@@ -80,14 +82,14 @@ impl<'a, R: Wait + Clock + AllocGlobal> Committers<'a, R> {
     ) -> Result<(), Fault>
         ensures { number_of_seat session.new.seat ≡ number_of_seat session.old.seat }
     {
-        let inserted = session.insert(self.rt, index, entry(key_of(number, place), 0))?;
+        let action = insert(self.rt, index, session, entry(key_of(number, place), 0))?;
         if let Some(added) = told.added.get_mut(place) {
-            *added = Some(inserted.action);
+            *added = Some(action);
         }
         if place == 3 && number == 0 {
-            told.durable = session.checkpoint(self.rt, index)?;
+            told.durable = checkpoint(self.rt, index, session)?;
         } else if place % 3 == 2 {
-            told.durable = session.commit(self.rt, index)?;
+            told.durable = commit(self.rt, index, session)?;
         }
         Ok(())
     }
@@ -100,14 +102,14 @@ impl<'a, R: Wait + Clock + AllocGlobal> Committers<'a, R> {
     ) -> Result<(), Fault>
         ensures { number_of_seat session.new.seat ≡ number_of_seat session.old.seat }
     {
-        let Ok(mut batch) = Vec::with_capacity(self.rt.alloc(), 64) else {
+        let Ok(mut given) = Vec::with_capacity(self.rt.alloc(), 64) else {
             return Err(Fault::NoMemory);
         };
-        session.scan(self.rt, index, ALL)?;
-        if session.batch(self.rt, index, &mut batch)? {
+        scan(self.rt, index, session, ALL)?;
+        if batch(self.rt, index, session, &mut given)? {
             return Ok(());
         }
-        session.leave_scan(self.rt, index)
+        leave_scan(self.rt, index, session)
     }
 
     /// Calls of a session whose device has stopped: an insert, and a commit of it, which is refused. When a
@@ -121,19 +123,19 @@ impl<'a, R: Wait + Clock + AllocGlobal> Committers<'a, R> {
     ) -> bool
         ensures { number_of_seat session.new.seat ≡ number_of_seat session.old.seat }
     {
-        let inserted = session.insert(self.rt, index, entry(last_key(number), 0));
-        if let Ok(inserted) = &inserted {
-            told.last = Some(inserted.action);
+        let inserted = insert(self.rt, index, session, entry(last_key(number), 0));
+        if let Ok(action) = &inserted {
+            told.last = Some(*action);
         }
-        let committed = session.commit(self.rt, index);
+        let committed = commit(self.rt, index, session);
         if let Ok(count) = &committed {
             told.durable = *count;
         }
         let has_stopped = committed.is_err();
         let scanned = self.scan_all(index, session);
-        let deleted = session.bulk_delete(self.rt, index, 2);
-        let cleaned = session.clean_up(self.rt, index);
-        let kept = session.checkpoint(self.rt, index);
+        let deleted = bulk_delete(self.rt, index, session, 2);
+        let cleaned = clean_up(self.rt, index, session);
+        let kept = checkpoint(self.rt, index, session);
         is_right(&inserted, false)
             && is_right(&committed, inserted.is_ok())
             && is_right(&scanned, has_stopped)
@@ -208,42 +210,70 @@ fn note_all(added: &mut [Option<Addition>], number: u32, told: &Told) {
 /// What the threads were told together.
 #[derive(Drop)]
 struct AllTold {
-    world: InMemory,
     added: Vec<Option<Addition>>,
     durable: u64,
     has_failed: bool,
 }
 
-/// The threads work while the device stops at its nth call.
+/// What the threads were told, each by its number.
 fn all_told(
-    rt: &(impl Abort + AllocGlobal + Print + Eprint + Threads + Wait + Clock + Sync),
-    n: u64,
+    rt: &(impl Abort + AllocGlobal + Print + Eprint),
+    outs: Vec<Told>,
 ) -> Result<AllTold, Fail> {
-    let world = made_failing(rt.alloc(), THREADS, Failing::ForGood, n)?;
-    let served = match serve(rt, rt.alloc(), world, THREADS, &Committers { rt }) {
-        Ok(served) => served,
-        Err(not_served) => return Err(Fail::from(not_served.fault)),
+    let mut all = AllTold {
+        added: vec![in rt.alloc(); None; 64]?,
+        durable: 0,
+        has_failed: false,
     };
-    assert!(rt; served.idle);
-    assert_eq!(rt; served.outs.len(), THREADS as usize);
-    let mut added = vec![in rt.alloc(); None; 64]?;
-    let mut durable = 0u64;
-    let mut has_failed = false;
     let mut number = 0u32;
-    for told in served.outs {
-        assert!(rt; told.is_right, "{n}");
-        note_all(added.as_mut_slice(), number, &told);
-        durable = durable.max(told.durable);
-        has_failed = has_failed || told.has_failed;
+    for told in outs {
+        assert!(rt; told.is_right);
+        note_all(all.added.as_mut_slice(), number, &told);
+        all.durable = all.durable.max(told.durable);
+        all.has_failed = all.has_failed || told.has_failed;
         number = number.saturating_add(1);
     }
-    let world: InMemory = served.world;
-    Ok(AllTold {
-        world,
-        added,
-        durable,
-        has_failed,
-    })
+    assert_eq!(rt; number, THREADS);
+    Ok(all)
+}
+
+/// What each crash leaves of a world whose threads were told this: the entries after a prefix of the actions
+/// with all that was committed.
+fn leaves_prefix(
+    rt: &(impl Abort + AllocGlobal + Print + Eprint + Threads + Wait + Sync),
+    world: &InMemory,
+    told: &AllTold,
+    counted: &mut Counted,
+) -> Result<(), Fail> {
+    let last = actions(world);
+    for image in [CrashImage::Keep, CrashImage::Drop, CrashImage::Tear] {
+        let found = left_by(rt.alloc(), world, image)?;
+        opens_right(
+            rt,
+            found,
+            told.added.as_slice(),
+            told.durable,
+            last,
+            counted,
+        )?;
+    }
+    Ok(())
+}
+
+/// The same of a world that is left then, and of what its threads answered. Whether a call was refused.
+fn stops_right(
+    rt: &(impl Abort + AllocGlobal + Print + Eprint + Threads + Wait + Sync),
+    world: InMemory,
+    outs: Vec<Told>,
+    counted: &mut Counted,
+) -> Result<bool, Fail> {
+    match all_told(rt, outs) {
+        Ok(told) => match leaves_prefix(rt, &world, &told, counted) {
+            Ok(()) => Ok(told.has_failed),
+            Err(fail) => Err(fail),
+        },
+        Err(fail) => Err(fail),
+    }
 }
 
 /// The device stops at each of its calls in turn. Each call of a session then is refused by its number, and
@@ -254,14 +284,11 @@ fn device_stops_at_each_call(rt: HostRuntime) -> Result<(), Fail> {
     let mut counted = Counted::default();
     let mut failed = 0u32;
     for n in 1..200u64 {
-        let told = all_told(&rt, n)?;
-        let last = actions(&told.world);
-        for image in [CrashImage::Keep, CrashImage::Drop, CrashImage::Tear] {
-            let found = left_by(rt.alloc(), &told.world, image)?;
-            let added = told.added.as_slice();
-            opens_right(&rt, found, added, told.durable, last, &mut counted)?;
-        }
-        if !told.has_failed {
+        let world = made_failing(rt.alloc(), THREADS, Failing::ForGood, n)?;
+        let (outs, world, idle) = served(&rt, world, THREADS, &Committers { rt: &rt })?;
+        let has_failed = stops_right(&rt, world, outs, &mut counted)?;
+        assert!(rt; idle, "{n}");
+        if !has_failed {
             break;
         }
         failed = failed.saturating_add(1);

@@ -7,12 +7,15 @@ ghost use Rattle.shared_index.specs.Sessions.{number_of_seat};
 use crate::indexes::{InMemory, SETS, all_entries, made};
 use crate::lists::{Dice, entry, range};
 use crate::plain::{ALL, is_left_sound};
+use crate::serving::served;
+use crate::session;
 use index_model::{DeadRows, Entry, Fault, Limits, Range};
 use page_action::PageStore;
 use schedule::Event;
 use session_calls::Answer;
-use shared_index::{Client, SharedIndex, SharedSession, serve};
+use shared_index::{Client, SharedIndex, SharedSession};
 use shared_world::OriginOn;
+use std::alloc::Global;
 use std::process::Abort;
 use std::sync::Wait;
 use std::test::{Fail, *};
@@ -168,10 +171,10 @@ impl<'a, R: Wait + Clock + AllocGlobal> Mixers<'a, R> {
         let Ok(mut batch) = Vec::with_capacity(self.rt.alloc(), size) else {
             return Err(Fault::NoMemory);
         };
-        session.scan(self.rt, index, *range)?;
+        session::scan(self.rt, index, session, *range)?;
         for batches in 0..10_000_u32 {
             if size == 5 && batches == 2 {
-                session.leave_scan(self.rt, index)?;
+                session::leave_scan(self.rt, index, session)?;
                 told.left = told.left.saturating_add(1);
                 break;
             }
@@ -200,7 +203,7 @@ impl<'a, R: Wait + Clock + AllocGlobal> Mixers<'a, R> {
     ) -> Result<bool, Fault>
         ensures { number_of_seat session.new.seat ≡ number_of_seat session.old.seat }
     {
-        match session.batch(self.rt, index, batch) {
+        match session::batch(self.rt, index, session, batch) {
             Err(Fault::Blocked(_)) => {
                 told.blocked = told.blocked.saturating_add(1);
                 Ok(false)
@@ -220,11 +223,11 @@ impl<'a, R: Wait + Clock + AllocGlobal> Mixers<'a, R> {
     ) -> Result<(), Fault>
         ensures { number_of_seat session.new.seat ≡ number_of_seat session.old.seat }
     {
-        let mut inserted = session.insert(self.rt, index, entry_of(number, place));
+        let mut inserted = session::insert(self.rt, index, session, entry_of(number, place));
         if matches!(&inserted, Err(Fault::Blocked(_))) {
             told.blocked = told.blocked.saturating_add(1);
             session.set_patience(None);
-            inserted = session.insert(self.rt, index, entry_of(number, place));
+            inserted = session::insert(self.rt, index, session, entry_of(number, place));
         }
         let _inserted = inserted?;
         told.inserted = told.inserted.saturating_add(1);
@@ -242,9 +245,9 @@ impl<'a, R: Wait + Clock + AllocGlobal> Mixers<'a, R> {
         ensures { number_of_seat session.new.seat ≡ number_of_seat session.old.seat }
     {
         let place = if set == 0 { 2 } else { 1 };
-        match session.bulk_delete(self.rt, index, place) {
-            Ok(stats) => {
-                told.removed = told.removed.saturating_add(stats.tuples_removed);
+        match session::bulk_delete(self.rt, index, session, place) {
+            Ok(removed) => {
+                told.removed = told.removed.saturating_add(removed);
                 if let Some(deleted) = told.deleted.get_mut(set as usize) {
                     *deleted = told.inserted;
                 }
@@ -264,8 +267,8 @@ impl<'a, R: Wait + Clock + AllocGlobal> Mixers<'a, R> {
     ) -> Result<(), Fault>
         ensures { number_of_seat session.new.seat ≡ number_of_seat session.old.seat }
     {
-        match session.clean_up(self.rt, index) {
-            Ok(_) => Ok(()),
+        match session::clean_up(self.rt, index, session) {
+            Ok(()) => Ok(()),
             Err(Fault::Blocked(_)) | Err(Fault::VacuumRunning) => {
                 told.blocked = told.blocked.saturating_add(1);
                 Ok(())
@@ -303,11 +306,11 @@ impl<'a, R: Wait + Clock + AllocGlobal> Mixers<'a, R> {
                 self.clean_up(index, session, told)
             }
             8..=11 => {
-                let _durable = session.commit(self.rt, index)?;
+                let _durable = session::commit(self.rt, index, session)?;
                 Ok(())
             }
             12 => {
-                let _durable = session.checkpoint(self.rt, index)?;
+                let _durable = session::checkpoint(self.rt, index, session)?;
                 Ok(())
             }
             _ => Ok(()),
@@ -413,47 +416,73 @@ fn count_kept(entries: &[Entry]) -> Option<usize> {
     Some(count)
 }
 
+/// What an index has: its entries, how many more both sets delete, and its entries then.
+#[derive(Drop)]
+struct Found {
+    before: Vec<Entry>,
+    removed: u64,
+    after: Vec<Entry>,
+}
+
+fn found_in(alloc: Global, world: &mut InMemory) -> Result<Found, Fail> {
+    let before = all_entries(alloc, world)?;
+    let mut removed = 0u64;
+    for set in 0..SETS {
+        removed = removed.saturating_add(delete_alone(world, set)?);
+    }
+    let after = all_entries(alloc, world)?;
+    Ok(Found {
+        before,
+        removed,
+        after,
+    })
+}
+
+/// The same of a world that is left then, and whether that is sound.
+fn found_and_left(alloc: Global, world: InMemory) -> (Result<Found, Fail>, bool) {
+    let mut world = world;
+    let found = found_in(alloc, &mut world);
+    (found, is_left_sound(alloc, world))
+}
+
+/// What the threads were told in all. None if something wasn't right.
+fn sums_of(outs: Vec<Result<Told, Fault>>) -> Result<Option<Sums>, Fault> {
+    let mut sums = Sums::default();
+    let mut is_right = true;
+    for told in outs {
+        let told = told?;
+        is_right = is_right && told.is_right;
+        sums.add(&told);
+    }
+    Ok(is_right.then_some(sums))
+}
+
 /// Each entry that was inserted is there at the end, unless a bulk delete removed it, and nothing else is.
 /// Each scan gave what was there throughout, ascending, and none gave what never was.
 #[test]
 fn threads_mix_all_calls(rt: HostRuntime) -> Result<(), Fail> {
-    let world = made(rt.alloc(), &LIMITS, u32::from(THREADS))?;
-    let served = match serve(
-        &rt,
-        rt.alloc(),
-        world,
-        u32::from(THREADS),
-        &Mixers { rt: &rt },
-    ) {
-        Ok(served) => served,
-        Err(not_served) => return Err(Fail::from(not_served.fault)),
+    let sessions = u32::from(THREADS);
+    let world = made(rt.alloc(), &LIMITS, sessions)?;
+    let (outs, world, idle) = served(&rt, world, sessions, &Mixers { rt: &rt })?;
+    let (found, is_sound) = found_and_left(rt.alloc(), world);
+    let found = found?;
+    assert!(rt; idle && is_sound);
+    assert_eq!(rt; outs.len(), usize::from(THREADS));
+    let Some(sums) = sums_of(outs)? else {
+        return Err(Fail::from(Fault::NoSession));
     };
-    assert!(rt; served.idle);
-    assert_eq!(rt; served.outs.len(), usize::from(THREADS));
-    let mut sums = Sums::default();
-    for told in served.outs {
-        let told = told?;
-        assert!(rt; told.is_right);
-        sums.add(&told);
-    }
     assert_eq!(rt; sums.inserted, 1_920);
     assert!(rt;
         sums.finished > 0 && sums.left > 0 && sums.removed > 0,
         "{sums:?}"
     );
-    let mut world: InMemory = served.world;
-    let entries = all_entries(rt.alloc(), &mut world)?;
-    assert_eq!(rt; count_kept(entries.as_slice()), Some(KEPT));
+    assert_eq!(rt; count_kept(found.before.as_slice()), Some(KEPT));
     assert_eq!(rt;
-        entries.len() as u64,
+        found.before.len() as u64,
         sums.inserted.saturating_sub(sums.removed)
     );
-    for set in 0..SETS {
-        sums.removed = sums.removed.saturating_add(delete_alone(&mut world, set)?);
-    }
-    let entries = all_entries(rt.alloc(), &mut world)?;
-    assert_eq!(rt; count_kept(entries.as_slice()), Some(KEPT));
-    assert_eq!(rt; (entries.len(), sums.removed), (KEPT, 1_920 - KEPT as u64));
-    assert!(rt; is_left_sound(rt.alloc(), world));
+    assert_eq!(rt; count_kept(found.after.as_slice()), Some(KEPT));
+    let removed = sums.removed.saturating_add(found.removed);
+    assert_eq!(rt; (found.after.len(), removed), (KEPT, 1_920 - KEPT as u64));
     Ok(())
 }

@@ -6,11 +6,14 @@ ghost use Rattle.shared_index.specs.Sessions.{number_of_seat};
 use crate::indexes::{InMemory, SETS, all_entries, made, without_sets};
 use crate::lists::entry;
 use crate::plain::{ALL, is_left_sound};
+use crate::serving::{entries_left, served};
+use crate::session::{Deleted, batch, bulk_delete, commit, delete_rows, insert, leave_scan, scan};
 use crate::stages::Stages;
 use index_model::{Entry, Fault, Limits};
 use page_action::PageStore;
-use shared_index::{Client, NotPut, RowsDeleted, SharedIndex, SharedSession, serve};
+use shared_index::{Client, SharedIndex, SharedSession};
 use shared_world::OriginOn;
+use std::alloc::Global;
 use std::process::Abort;
 use std::sync::Wait;
 use std::test::{Fail, *};
@@ -53,15 +56,13 @@ fn entry_of(number: u16, place: u16) -> Entry {
 
 /// Whether the set was refused with this fault, and is the one of this block.
 fn is_refused(
-    deleted: &Result<RowsDeleted<Blocks>, NotPut<Blocks>>,
+    deleted: &Result<Deleted<Blocks>, (Fault, Blocks)>,
     fault: Fault,
     block: u32,
 ) -> bool {
     match deleted {
         Ok(_) => false,
-        Err(not_put) => {
-            not_put.fault == fault && not_put.set.from == block && not_put.set.to == block
-        }
+        Err((refused, set)) => *refused == fault && set.from == block && set.to == block,
     }
 }
 
@@ -83,9 +84,9 @@ impl<'a, R: Wait + Clock> Deleters<'a, R> {
         ensures { number_of_seat session.new.seat ≡ number_of_seat session.old.seat }
     {
         let set = rows_of(u32::from(number).saturating_add(100));
-        match session.delete_rows(self.rt, index, set) {
-            Ok(done) => Ok((done.told?.tuples_removed, done.was.from)),
-            Err(not_put) => Err(not_put.fault),
+        match delete_rows(self.rt, index, session, set) {
+            Ok((removed, was)) => Ok((removed?, was.from)),
+            Err((fault, _)) => Err(fault),
         }
     }
 
@@ -97,11 +98,11 @@ impl<'a, R: Wait + Clock> Deleters<'a, R> {
     ) -> Result<bool, Fault>
         ensures { number_of_seat session.new.seat ≡ number_of_seat session.old.seat }
     {
-        let spare = session.bulk_delete(self.rt, index, 0);
-        let beyond = session.bulk_delete(self.rt, index, SETS);
-        session.scan(self.rt, index, ALL)?;
-        let busy = session.delete_rows(self.rt, index, rows_of(8));
-        session.leave_scan(self.rt, index)?;
+        let spare = bulk_delete(self.rt, index, session, 0);
+        let beyond = bulk_delete(self.rt, index, session, SETS);
+        scan(self.rt, index, session, ALL)?;
+        let busy = delete_rows(self.rt, index, session, rows_of(8));
+        leave_scan(self.rt, index, session)?;
         let none = matches!(spare, Err(Fault::NoSession))
             && matches!(beyond, Err(Fault::NoSession));
         Ok(none && is_refused(&busy, Fault::SessionBusy, 8))
@@ -119,7 +120,7 @@ impl<'a, R: Wait + Clock> Deleters<'a, R> {
         let mut removed = 0u64;
         let mut is_right = self.refuses(index, session)?;
         for place in 0..EACH {
-            session.insert(self.rt, index, entry_of(number, place))?;
+            insert(self.rt, index, session, entry_of(number, place))?;
             if place % PART == PART.wrapping_sub(1) {
                 let (count, was) = self.delete(index, session, number)?;
                 removed = removed.saturating_add(count);
@@ -128,7 +129,7 @@ impl<'a, R: Wait + Clock> Deleters<'a, R> {
                 is_right = is_right && count == expected && was_known;
             }
         }
-        let _durable = session.commit(self.rt, index)?;
+        let _durable = commit(self.rt, index, session)?;
         Ok((removed, is_right))
     }
 }
@@ -148,25 +149,28 @@ impl<'a, S: PageStore, R: Wait + Clock> Client<S, Blocks> for Deleters<'a, R> {
     }
 }
 
+/// All entries of a world that is left then, and whether it is sound.
+fn found_and_left(alloc: Global, world: InMemory) -> (Result<Vec<Entry>, Fail>, bool) {
+    let mut world = world;
+    let entries = all_entries(alloc, &mut world);
+    (entries, is_left_sound(alloc, world))
+}
+
 /// Each bulk delete removes just the rows of the set that came with it, whatever sets others put meanwhile.
 #[test]
 fn each_deletes_rows_of_its_own(rt: HostRuntime) -> Result<(), Fail> {
-    let world = made(rt.alloc(), &LIMITS, u32::from(THREADS))?;
-    let client = Deleters { rt: &rt };
-    let served = match serve(&rt, rt.alloc(), world, u32::from(THREADS), &client) {
-        Ok(served) => served,
-        Err(not_served) => return Err(Fail::from(not_served.fault)),
-    };
-    assert!(rt; served.idle);
-    assert_eq!(rt; served.outs.len(), usize::from(THREADS));
-    for told in served.outs {
+    let sessions = u32::from(THREADS);
+    let world = made(rt.alloc(), &LIMITS, sessions)?;
+    let (outs, world, idle) = served(&rt, world, sessions, &Deleters { rt: &rt })?;
+    let (entries, is_sound) = found_and_left(rt.alloc(), world);
+    let entries = entries?;
+    assert!(rt; idle && is_sound);
+    assert_eq!(rt; outs.len(), usize::from(THREADS));
+    for told in outs {
         assert_eq!(rt; told?, (40, true));
     }
-    let mut world: InMemory = served.world;
-    let entries = all_entries(rt.alloc(), &mut world)?;
     assert_eq!(rt; entries.len(), 160);
     assert!(rt; entries.as_slice().iter().all(|one| one.row.block() == 9));
-    assert!(rt; is_left_sound(rt.alloc(), world));
     Ok(())
 }
 
@@ -190,22 +194,22 @@ impl<'a, R: Wait + Clock + AllocGlobal> Waiters<'a, R> {
     {
         for number in 0..3_u16 {
             let block = if number == 1 { 9 } else { 100 };
-            session.insert(self.rt, index, entry(number, block))?;
+            insert(self.rt, index, session, entry(number, block))?;
         }
-        session.scan(self.rt, index, ALL)?;
+        scan(self.rt, index, session, ALL)?;
         let Ok(mut first) = Vec::with_capacity(self.rt.alloc(), 1) else {
             return Err(Fault::NoMemory);
         };
         let Ok(mut rest) = Vec::with_capacity(self.rt.alloc(), 2) else {
             return Err(Fault::NoMemory);
         };
-        let is_over = session.batch(self.rt, index, &mut first)?;
+        let is_over = batch(self.rt, index, session, &mut first)?;
         self.stages.reach(self.rt, 1);
         let waited = self.stages.wait_for(self.rt, 3);
-        let is_over_then = session.batch(self.rt, index, &mut rest)?;
+        let is_over_then = batch(self.rt, index, session, &mut rest)?;
         let count = rest.len();
         rest.clear();
-        let is_over_last = session.batch(self.rt, index, &mut rest)?;
+        let is_over_last = batch(self.rt, index, session, &mut rest)?;
         waited?;
         Ok(!is_over && !is_over_then && count == 2 && is_over_last && rest.is_empty())
     }
@@ -221,16 +225,15 @@ impl<'a, R: Wait + Clock + AllocGlobal> Waiters<'a, R> {
     {
         self.stages.wait_for(self.rt, 1)?;
         session.set_patience(Some(Duration::ZERO));
-        let blocked = session.delete_rows(self.rt, index, rows_of(100));
-        let is_blocked = match &blocked {
-            Ok(done) => matches!(&done.told, Err(Fault::Blocked(1))) && done.was.from == 1,
+        let is_blocked = match delete_rows(self.rt, index, session, rows_of(100)) {
+            Ok((removed, was)) => removed == Err(Fault::Blocked(1)) && was.from == 1,
             Err(_) => false,
         };
         self.stages.reach(self.rt, 2);
         session.set_patience(None);
-        match session.delete_rows(self.rt, index, rows_of(100)) {
-            Ok(done) => Ok(is_blocked && done.told?.tuples_removed == 2),
-            Err(not_put) => Err(not_put.fault),
+        match delete_rows(self.rt, index, session, rows_of(100)) {
+            Ok((removed, _)) => Ok(is_blocked && removed? == 2),
+            Err((fault, _)) => Err(fault),
         }
     }
 
@@ -247,7 +250,7 @@ impl<'a, R: Wait + Clock + AllocGlobal> Waiters<'a, R> {
         session.set_patience(Some(Duration::ZERO));
         let mut is_excluded = false;
         for _ in 0..10_000_000_u32 {
-            let brought = session.delete_rows(self.rt, index, rows_of(5));
+            let brought = delete_rows(self.rt, index, session, rows_of(5));
             if is_refused(&brought, Fault::VacuumRunning, 5) {
                 is_excluded = true;
                 break;
@@ -292,17 +295,13 @@ fn sets_wait_with_patience(rt: HostRuntime) -> Result<(), Fail> {
         rt: &rt,
         stages: Stages::new(),
     };
-    let served = match serve(&rt, rt.alloc(), world, 3, &waiters) {
-        Ok(served) => served,
-        Err(not_served) => return Err(Fail::from(not_served.fault)),
-    };
-    assert!(rt; served.idle);
-    assert_eq!(rt; served.outs.len(), 3);
-    for out in served.outs {
+    let (outs, world, idle) = served(&rt, world, 3, &waiters)?;
+    let entries = entries_left(rt.alloc(), world)?;
+    assert!(rt; idle);
+    assert_eq!(rt; outs.len(), 3);
+    for out in outs {
         assert!(rt; out?);
     }
-    let mut world: InMemory = served.world;
-    let entries = all_entries(rt.alloc(), &mut world)?;
     assert!(rt; entries.as_slice() == [entry(1, 9)].as_slice());
     Ok(())
 }
@@ -324,7 +323,7 @@ impl<'a, S: PageStore, R: Wait + Clock> Client<S, Blocks> for Bringer<'a, R> {
         session: &mut SharedSession<J>,
         _number: u32,
     ) -> bool {
-        let brought = session.delete_rows(self.rt, index, rows_of(7));
+        let brought = delete_rows(self.rt, index, session, rows_of(7));
         is_refused(&brought, Fault::NoSession, 7)
     }
 }
@@ -333,11 +332,8 @@ impl<'a, S: PageStore, R: Wait + Clock> Client<S, Blocks> for Bringer<'a, R> {
 #[test]
 fn a_world_without_sets_takes_none(rt: HostRuntime) -> Result<(), Fail> {
     let world = without_sets(rt.alloc(), &LIMITS, 1)?;
-    let served = match serve(&rt, rt.alloc(), world, 1, &Bringer { rt: &rt }) {
-        Ok(served) => served,
-        Err(not_served) => return Err(Fail::from(not_served.fault)),
-    };
-    assert!(rt; served.idle);
-    assert!(rt; served.outs.as_slice() == [true].as_slice());
+    let (outs, _, idle) = served(&rt, world, 1, &Bringer { rt: &rt })?;
+    assert!(rt; idle);
+    assert!(rt; outs.as_slice() == [true].as_slice());
     Ok(())
 }

@@ -6,12 +6,15 @@ ghost use Rattle.shared_index.specs.Sessions.{number_of_seat};
 use crate::indexes::{InMemory, all_entries, made};
 use crate::lists::entry;
 use crate::plain::{ALL, abandon};
+use crate::serving::{entries_left, served};
+use crate::session::{batch, bulk_delete, clean_up, insert, scan};
 use crate::stages::Stages;
 use index_model::{DeadRows, Entry, Fault, Limits};
 use page_action::PageStore;
 use session_calls::Answer;
-use shared_index::{Client, SharedIndex, SharedSession, serve};
+use shared_index::{Client, SharedIndex, SharedSession};
 use shared_world::OriginOn;
+use std::alloc::Global;
 use std::process::Abort;
 use std::sync::Wait;
 use std::test::{Fail, *};
@@ -66,19 +69,19 @@ impl<'a, R: Wait + Clock + AllocGlobal> Waiters<'a, R> {
     {
         for number in 0..3_u16 {
             let block = if number == 1 { 9 } else { 1 };
-            session.insert(self.rt, index, entry(number, block))?;
+            insert(self.rt, index, session, entry(number, block))?;
         }
-        session.scan(self.rt, index, ALL)?;
+        scan(self.rt, index, session, ALL)?;
         let Ok(mut first) = Vec::with_capacity(self.rt.alloc(), 1) else {
             return Err(Fault::NoMemory);
         };
         let Ok(mut rest) = Vec::with_capacity(self.rt.alloc(), 10) else {
             return Err(Fault::NoMemory);
         };
-        let is_over = session.batch(self.rt, index, &mut first)?;
+        let is_over = batch(self.rt, index, session, &mut first)?;
         self.stages.reach(self.rt, 1);
         let waited = self.stages.wait_for(self.rt, 3);
-        let is_over_then = session.batch(self.rt, index, &mut rest)?;
+        let is_over_then = batch(self.rt, index, session, &mut rest)?;
         waited?;
         Ok(
             !is_over
@@ -98,10 +101,7 @@ impl<'a, R: Wait + Clock + AllocGlobal> Waiters<'a, R> {
         ensures { number_of_seat session.new.seat ≡ number_of_seat session.old.seat }
     {
         session.set_patience(Some(patience));
-        matches!(
-            session.bulk_delete(self.rt, index, 2),
-            Err(Fault::Blocked(1))
-        )
+        bulk_delete(self.rt, index, session, 2) == Err(Fault::Blocked(1))
     }
 
     /// Deletes by the set beside the scan: it is blocked at once, then after a while, and at last it waits
@@ -120,7 +120,7 @@ impl<'a, R: Wait + Clock + AllocGlobal> Waiters<'a, R> {
         let has_waited = self.has_waited(since);
         self.stages.reach(self.rt, 2);
         session.set_patience(None);
-        let removed = session.bulk_delete(self.rt, index, 2)?.tuples_removed;
+        let removed = bulk_delete(self.rt, index, session, 2)?;
         Ok(is_blocked && is_blocked_later && has_waited && removed == 2)
     }
 
@@ -134,8 +134,7 @@ impl<'a, R: Wait + Clock + AllocGlobal> Waiters<'a, R> {
     {
         session.set_patience(Some(Duration::ZERO));
         for _ in 0..10_000_000_u32 {
-            let cleaned = session.clean_up(self.rt, index);
-            if matches!(cleaned, Err(Fault::VacuumRunning)) {
+            if clean_up(self.rt, index, session) == Err(Fault::VacuumRunning) {
                 return true;
             }
         }
@@ -155,12 +154,12 @@ impl<'a, R: Wait + Clock + AllocGlobal> Waiters<'a, R> {
         let is_excluded = self.is_excluded(index, session);
         let since = self.now()?;
         session.set_patience(Some(patience()));
-        let cleaned = session.clean_up(self.rt, index);
-        let is_excluded_later = matches!(cleaned, Err(Fault::VacuumRunning));
+        let cleaned = clean_up(self.rt, index, session);
+        let is_excluded_later = cleaned == Err(Fault::VacuumRunning);
         let has_waited = self.has_waited(since);
         self.stages.reach(self.rt, 3);
         session.set_patience(None);
-        let _stats = session.clean_up(self.rt, index)?;
+        clean_up(self.rt, index, session)?;
         Ok(is_excluded && is_excluded_later && has_waited)
     }
 }
@@ -194,17 +193,13 @@ fn calls_wait_with_patience(rt: HostRuntime) -> Result<(), Fail> {
         rt: &rt,
         stages: Stages::new(),
     };
-    let served = match serve(&rt, rt.alloc(), world, 3, &waiters) {
-        Ok(served) => served,
-        Err(not_served) => return Err(Fail::from(not_served.fault)),
-    };
-    assert!(rt; served.idle);
-    assert_eq!(rt; served.outs.len(), 3);
-    for out in served.outs {
+    let (outs, world, idle) = served(&rt, world, 3, &waiters)?;
+    let entries = entries_left(rt.alloc(), world)?;
+    assert!(rt; idle);
+    assert_eq!(rt; outs.len(), 3);
+    for out in outs {
         assert!(rt; out?);
     }
-    let mut world: InMemory = served.world;
-    let entries = all_entries(rt.alloc(), &mut world)?;
     assert!(rt; entries.as_slice() == [entry(1, 9)].as_slice());
     Ok(())
 }
@@ -226,17 +221,17 @@ impl<'a, R: Wait + Clock + AllocGlobal> Loser<'a, R> {
     {
         let first = u16::try_from(number).unwrap_or(0).wrapping_mul(60);
         for place in 0..60_u16 {
-            session.insert(self.rt, index, entry(first.wrapping_add(place), 9))?;
+            insert(self.rt, index, session, entry(first.wrapping_add(place), 9))?;
         }
         if number > 0 {
             return Ok(0);
         }
-        session.scan(self.rt, index, ALL)?;
-        let Ok(mut batch) = Vec::with_capacity(self.rt.alloc(), 5) else {
+        scan(self.rt, index, session, ALL)?;
+        let Ok(mut given) = Vec::with_capacity(self.rt.alloc(), 5) else {
             return Err(Fault::NoMemory);
         };
-        let _is_over = session.batch(self.rt, index, &mut batch)?;
-        Ok(batch.len())
+        let _is_over = batch(self.rt, index, session, &mut given)?;
+        Ok(given.len())
     }
 }
 
@@ -256,25 +251,35 @@ impl<'a, S: PageStore, T: DeadRows + Drop, R: Wait + Clock + AllocGlobal> Client
     }
 }
 
+/// How many entries a world has, once the scan of session 0 was given up.
+fn count_without_scan(alloc: Global, world: &mut InMemory) -> Result<usize, Fail> {
+    if world.is_running(1) || world.is_running(2) || !world.is_running(0) {
+        return Err(Fail::from(Fault::SessionBusy));
+    }
+    if !matches!(abandon(world, 0), Answer::Ended) || world.is_running(0) {
+        return Err(Fail::from(Fault::NoSession));
+    }
+    Ok(all_entries(alloc, world)?.len())
+}
+
+/// The same of a world that is left then.
+fn count_left(alloc: Global, world: InMemory) -> Result<usize, Fail> {
+    let mut world = world;
+    count_without_scan(alloc, &mut world)
+}
+
 /// A session whose scan is open at the end: the world has it, until it is given up, and all that was
 /// inserted.
 #[test]
 fn lost_scan_is_in_the_world(rt: HostRuntime) -> Result<(), Fail> {
     let world = made(rt.alloc(), &LIMITS, 3)?;
-    let served = match serve(&rt, rt.alloc(), world, 3, &Loser { rt: &rt }) {
-        Ok(served) => served,
-        Err(not_served) => return Err(Fail::from(not_served.fault)),
-    };
-    assert!(rt; !served.idle);
+    let (outs, world, idle) = served(&rt, world, 3, &Loser { rt: &rt })?;
+    assert_eq!(rt; count_left(rt.alloc(), world)?, 180);
+    assert!(rt; !idle);
     let mut given: usize = 0;
-    for out in served.outs {
+    for out in outs {
         given = out?.saturating_add(given);
     }
     assert_eq!(rt; given, 5);
-    let mut world: InMemory = served.world;
-    assert!(rt; world.is_running(0) && !world.is_running(1) && !world.is_running(2));
-    assert!(rt; matches!(abandon(&mut world, 0), Answer::Ended));
-    assert!(rt; !world.is_running(0));
-    assert_eq!(rt; all_entries(rt.alloc(), &mut world)?.len(), 180);
     Ok(())
 }
