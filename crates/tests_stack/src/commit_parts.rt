@@ -9,7 +9,7 @@ use redo_log::Advance;
 use std::alloc::Global;
 use std::test::{Fail, *};
 use tests_support::plain::{
-    advance_commit, begin_scan, commit, end_scan, insert, next, open_index,
+    advance_commit, begin_scan, commit, end_scan, insert, left, next, open_index,
 };
 use tests_support::small::{ALL, entry, made};
 
@@ -39,69 +39,105 @@ fn count<S: PageStore>(index: &mut Index<S>) -> Result<u32, Fault> {
     Err(Fault::PageDamaged(0))
 }
 
-// How many entries an index has on what such a crash leaves of a device.
-fn left(alloc: Global, device: &MemDevice, image: CrashImage) -> Result<u32, Fault> {
-    let mut index = open_index(alloc, device.crash(alloc, image)?, 16)?;
+// How many entries the index on a device has.
+fn count_on(alloc: Global, device: MemDevice) -> Result<u32, Fault> {
+    let mut index = open_index(alloc, device, 16)?;
     count(&mut index)
 }
 
+// How many entries an index has on what such a crash leaves of a device.
+fn left_by(alloc: Global, device: &MemDevice, image: CrashImage) -> Result<u32, Fault> {
+    count_on(alloc, left(alloc, device, image)?)
+}
+
+// The same of two crashes: one that drops what wasn't synced, and one that keeps it.
+fn both_left(alloc: Global, device: &MemDevice) -> Result<[u32; 2], Fault> {
+    Ok([
+        left_by(alloc, device, CrashImage::Drop)?,
+        left_by(alloc, device, CrashImage::Keep)?,
+    ])
+}
+
+// What is done with an empty index.
+#[derive(Clone, Copy)]
+enum Deed {
+    // An insert, so many parts of a commit, and the commit, if that is asked for.
+    Parts(u32, bool),
+    InsertsBetween,
+}
+
 // An entry is inserted, so many parts of a commit are done, with a scan after each, and the commit if that is
-// asked for. How many entries two crashes leave then: one that drops what wasn't synced, and one that keeps
-// it. None if a part or a scan isn't right.
-fn left_after(alloc: Global, parts: u32, commits: bool) -> Result<Option<[u32; 2]>, Fault> {
-    let mut index = open_index(alloc, made(alloc)?, 16)?;
-    let mut is_right = part(&mut index)? == 0;
-    insert(&mut index, of(1))?;
+// asked for: whether each part and each scan is right.
+fn goes_in_parts(
+    index: &mut Index<Store<MemDevice>>,
+    parts: u32,
+    commits: bool,
+) -> Result<bool, Fault> {
+    let mut is_right = part(index)? == 0;
+    insert(index, of(1))?;
     for k in 0..parts {
-        let told = part(&mut index)?;
-        is_right = is_right && told == (k + 1).min(2) && count(&mut index)? == 1;
+        let told = part(index)?;
+        is_right = is_right && told == (k + 1).min(2) && count(index)? == 1;
     }
     if commits {
-        is_right = is_right && commit(&mut index)? > 0 && part(&mut index)? == 0;
+        is_right = is_right && commit(index)? > 0 && part(index)? == 0;
     }
-    let device = index.into_device();
-    let dropped = left(alloc, &device, CrashImage::Drop)?;
-    let kept = left(alloc, &device, CrashImage::Keep)?;
-    Ok(is_right.then_some([dropped, kept]))
+    Ok(is_right)
+}
+
+// Inserts between two parts: whether what was written is written again, and the commit comes after all.
+fn inserts_between(index: &mut Index<Store<MemDevice>>) -> Result<bool, Fault> {
+    insert(index, of(1))?;
+    let first = part(index)?;
+    insert(index, of(2))?;
+    let second = [part(index)?, part(index)?];
+    insert(index, of(3))?;
+    let third = part(index)?;
+    let all = count(index)?;
+    commit(index)?;
+    Ok((first, second, third, all) == (1, [1, 2], 1, 3))
+}
+
+fn does(index: &mut Index<Store<MemDevice>>, deed: Deed) -> bool {
+    match deed {
+        Deed::Parts(parts, commits) => goes_in_parts(index, parts, commits) == Ok(true),
+        Deed::InsertsBetween => inserts_between(index) == Ok(true),
+    }
+}
+
+// Does this with a new index: whether it is right, and the device after it.
+fn new_does(alloc: Global, deed: Deed) -> Result<(bool, MemDevice), Fault> {
+    let mut index = open_index(alloc, made(alloc)?, 16)?;
+    let is_right = does(&mut index, deed);
+    Ok((is_right, index.into_device()))
+}
+
+// Does this with a new index: how many entries those crashes leave then. None if it isn't right.
+fn left_after(alloc: Global, deed: Deed) -> Result<Option<[u32; 2]>, Fault> {
+    let (is_right, device) = new_does(alloc, deed)?;
+    let both = both_left(alloc, &device)?;
+    Ok(is_right.then_some(both))
 }
 
 #[test]
 fn a_commit_goes_in_parts(rt: HostRuntime) -> Result<(), Fail> {
-    let alloc = rt.alloc();
-    assert_eq!(rt; left_after(alloc, 1, false), Ok(Some([0, 0])));
-    assert_eq!(rt; left_after(alloc, 2, false), Ok(Some([0, 1])));
-    assert_eq!(rt; left_after(alloc, 3, false), Ok(Some([0, 1])));
-    for parts in 0..3 {
-        assert_eq!(rt; left_after(alloc, parts, true), Ok(Some([1, 1])));
+    for (parts, commits, wanted) in [
+        (1, false, [0, 0]),
+        (2, false, [0, 1]),
+        (3, false, [0, 1]),
+        (0, true, [1, 1]),
+        (1, true, [1, 1]),
+        (2, true, [1, 1]),
+    ] {
+        let deed = Deed::Parts(parts, commits);
+        assert_eq!(rt; left_after(rt.alloc(), deed), Ok(Some(wanted)));
     }
     Ok(())
 }
 
-// An insert between two parts: what was written is written again, and the commit makes both durable.
-fn inserts_between(alloc: Global) -> Result<[u32; 6], Fault> {
-    let mut index = open_index(alloc, made(alloc)?, 16)?;
-    insert(&mut index, of(1))?;
-    let first = part(&mut index)?;
-    insert(&mut index, of(2))?;
-    let second = part(&mut index)?;
-    let third = part(&mut index)?;
-    insert(&mut index, of(3))?;
-    let fourth = part(&mut index)?;
-    let all = count(&mut index)?;
-    commit(&mut index)?;
-    let device = index.into_device();
-    Ok([
-        first,
-        second,
-        third,
-        fourth,
-        all,
-        left(alloc, &device, CrashImage::Drop)?,
-    ])
-}
-
 #[test]
 fn an_insert_between_parts_is_committed_too(rt: HostRuntime) -> Result<(), Fail> {
-    assert_eq!(rt; inserts_between(rt.alloc()), Ok([1, 1, 2, 1, 3, 3]));
+    let found = left_after(rt.alloc(), Deed::InsertsBetween);
+    assert_eq!(rt; found, Ok(Some([3, 3])));
     Ok(())
 }

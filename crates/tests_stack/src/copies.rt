@@ -70,8 +70,39 @@ fn copy_all<S: PageStore, T: PageStore>(
     }
 }
 
-// Copies an index of so many entries and one more into an empty one of these limits, and answers what that
-// came to, and whether both give the same.
+// The entries that an index is filled with before it is copied: so many, and one more.
+#[derive(Clone, Copy)]
+struct Filling {
+    entries: u8,
+    more: Option<Entry>,
+}
+
+// Fills an index so, and copies it into an empty one: what that came to, and whether both give the same.
+fn filled_and_copied<S: PageStore, T: PageStore>(
+    from: &mut Index<S>,
+    into: &mut Index<T>,
+    filling: Filling,
+) -> Result<(Result<u64, u64>, bool), Fault> {
+    fill(from, filling.entries)?;
+    if let Some(more) = filling.more {
+        insert(from, more)?;
+    }
+    let came = copy_all(from, into);
+    Ok((came, give_alike(from, into)?))
+}
+
+// The same of an index into a new one of these limits.
+fn copied_into_new<S: PageStore>(
+    alloc: Global,
+    from: &mut Index<S>,
+    filling: Filling,
+    limits_of_copy: Limits,
+) -> Result<(Result<u64, u64>, bool), Fault> {
+    let mut into = index_over(alloc, pages(alloc, limits_of_copy)?)?;
+    filled_and_copied(from, &mut into, filling)
+}
+
+// The same of a new index.
 fn copied(
     alloc: Global,
     entries: u8,
@@ -79,13 +110,7 @@ fn copied(
     limits_of_copy: Limits,
 ) -> Result<(Result<u64, u64>, bool), Fault> {
     let mut from = index_over(alloc, pages(alloc, limits(64))?)?;
-    fill(&mut from, entries)?;
-    if let Some(more) = more {
-        insert(&mut from, more)?;
-    }
-    let mut into = index_over(alloc, pages(alloc, limits_of_copy)?)?;
-    let came = copy_all(&mut from, &mut into);
-    Ok((came, give_alike(&mut from, &mut into)?))
+    copied_into_new(alloc, &mut from, Filling { entries, more }, limits_of_copy)
 }
 
 #[test]
@@ -112,14 +137,29 @@ const WIDE: Limits = Limits {
 };
 
 // How many pages are in use after 250 inserts in ascending order, and after a copy of them.
+fn pages_after<S: PageStore, T: PageStore>(
+    from: &mut Index<S>,
+    into: &mut Index<T>,
+) -> Result<(u32, u32), Fault> {
+    for key in 0..250 {
+        insert(from, of(key))?;
+    }
+    let _came = copy_all(from, into);
+    Ok((from.info().pages_used, into.info().pages_used))
+}
+
+// The same of a copy in a new index.
+fn pages_of_new_copy<S: PageStore>(
+    alloc: Global,
+    from: &mut Index<S>,
+) -> Result<(u32, u32), Fault> {
+    let mut into = index_over(alloc, pages(alloc, WIDE)?)?;
+    pages_after(from, &mut into)
+}
+
 fn pages_used(alloc: Global) -> Result<(u32, u32), Fault> {
     let mut from = index_over(alloc, pages(alloc, WIDE)?)?;
-    for key in 0..250 {
-        insert(&mut from, of(key))?;
-    }
-    let mut into = index_over(alloc, pages(alloc, WIDE)?)?;
-    let _came = copy_all(&mut from, &mut into);
-    Ok((from.info().pages_used, into.info().pages_used))
+    pages_of_new_copy(alloc, &mut from)
 }
 
 // A leaf of 50 that overflows is split in the middle, so ascending inserts leave 26 on each but the last: 9
