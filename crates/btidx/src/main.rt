@@ -1,7 +1,7 @@
 //! The program of the index.
 #![tactic(auto)]
 
-use command_line::{execute, refuse, refuse_words};
+use command_line::{execute_for_status, refuse, refuse_words};
 use device::Unknown;
 use index_model::Fault;
 use std::io::BufWriter;
@@ -19,15 +19,14 @@ fn main(rt: HostRuntime) -> ExitCode {
     let Ok(mut out) = BufWriter::new(rt.alloc(), rt.stdout()) else {
         return ExitCode::from(refuse(&mut err, Fault::NoMemory));
     };
-    let done = execute::<_, Unknown, _, _, _, _>(
+    ExitCode::from(execute_for_status::<_, Unknown, _, _, _, _>(
         &rt,
         rt.alloc(),
         words.as_slice(),
         &mut input,
         &mut out,
         &mut err,
-    );
-    ExitCode::from(done.status)
+    ))
 }
 
 // The words of the command line.

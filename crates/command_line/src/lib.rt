@@ -1,6 +1,7 @@
 //! The program `btidx` as a library: its command line, the lines of a script, and what is printed. The
-//! program itself hands [`execute`] the streams of its process, and gets back its status and what the command
-//! left: [`Executed`] and [`Left`]. All else that is public here is for tests.
+//! program itself hands [`execute`] the streams of its process, by [`execute_for_status`]. `execute` gives
+//! the status and what the command left: [`Executed`] and [`Left`]. All else that is public here is for
+//! tests.
 #![tactic(auto)]
 
 mod checking;
@@ -33,4 +34,4 @@ pub use job_line::{JobLine, parse_job};
 pub use left::Left;
 pub use line::{Crash, Line, LineError, parse};
 pub use running::{Ran, run_world};
-pub use streams::{Executed, execute, refuse, refuse_words};
+pub use streams::{Executed, execute, execute_for_status, refuse, refuse_words};

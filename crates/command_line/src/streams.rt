@@ -96,6 +96,21 @@ pub fn execute<
     }
 }
 
+/// Runs the command of these words as [`execute`] does, and answers its status alone: 0, 1 or 2. What that
+/// promises isn't told again, since a caller that holds it costs minutes to prove. `main` needs the status.
+pub fn execute_for_status<
+    F: Files<File = File> + Threads + Wait + Sync,
+    B: Start + Send,
+    S: AsStr,
+    R: Read,
+    W: Write,
+    E: Write + Send,
+>(rt: &F, alloc: Global, words: &[S], input: &mut R, out: &mut W, err: &mut E) -> u8
+    ensures low { result ≤ 2 }
+{
+    execute::<F, B, S, R, W, E>(rt, alloc, words, input, out, err).status
+}
+
 /// The status of a command that ended so, and whose output was flushed so. A refusal is printed.
 fn status<E: Write>(
     end: &io::Result<End>,

@@ -3,7 +3,7 @@
 
 mod help_forms;
 
-use command_line::execute;
+use command_line::execute_for_status;
 use device::Unknown;
 pub use help_forms::{columns, filled, is_form_of, mark_seen, part};
 use std::alloc::{AllocError, Global};
@@ -35,7 +35,7 @@ pub fn played<R: AllocGlobal + Files<File = File> + Threads + Wait + Sync>(
 }
 
 /// Runs the program on a script, with this for its output. Answers what it printed on standard error, and its
-/// status. (Each call of `execute` costs the prover a minute, so the tests make none but this.)
+/// status.
 pub fn played_to<R: AllocGlobal + Files<File = File> + Threads + Wait + Sync, O: Write>(
     rt: &R,
     words: &[&str],
@@ -44,14 +44,14 @@ pub fn played_to<R: AllocGlobal + Files<File = File> + Threads + Wait + Sync, O:
 ) -> (Vec<u8>, u8) {
     let mut input = script.as_bytes();
     let mut err = Vec::new(rt.alloc());
-    let status = execute::<_, Unknown, _, _, _, _>(
+    let status = execute_for_status::<_, Unknown, _, _, _, _>(
         rt,
         rt.alloc(),
         words,
         &mut input,
         out,
         &mut err,
-    ).status;
+    );
     (err, status)
 }
 
