@@ -1,11 +1,10 @@
 //! Entries, pages, and small trees of pages in memory.
 
-use crate::plain::{add, empty, sessions};
+use crate::plain::{add, empty};
 use arrayvec::ArrayVec;
 use index_model::{Bound, Entry, Fault, Key, Layout, Limits, Range, RowAddr};
 use page_action::{MapStore, PageStore, find_misplaced};
 use page_codec::{Downlink, Items, Page, PageState};
-use session_calls::Calls;
 use std::alloc::Global;
 
 /// Four items a page, and this many pages.
@@ -186,21 +185,6 @@ pub fn over<F: FnOnce(&mut MapStore) -> Result<bool, Fault>>(
 /// The metapage, and a leaf with these entries as the root.
 pub fn tree(entries: &[Entry]) -> [Page; 2] {
     [meta(1, 0), leaf(1, None, None, entries, None)]
-}
-
-/// Whether this holds of such a tree, of so many pages at most, and of the calls of so many sessions.
-pub fn over_calls<F: FnOnce(&mut MapStore, &mut Calls) -> bool>(
-    alloc: Global,
-    most: u32,
-    entries: &[Entry],
-    count: u32,
-    is_right: F,
-) -> Result<bool, Fault>
-    requires { F.IsAlwaysCallable is_right }
-{
-    let mut store = stored(alloc, most, &tree(entries))?;
-    let mut calls = sessions(alloc, count)?;
-    Ok(is_right(&mut store, &mut calls))
 }
 
 /// Changes pages as another session does; NoMemory if a store would not take them.
