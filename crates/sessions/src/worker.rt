@@ -20,18 +20,26 @@ use session_calls::Answer;
 use shared_world::{Job, JobsOn, Turn};
 use std::sync::Wait;
 use std::thread;
-use worker_seats::{Pops, QueuePass, Seat};
+use worker_seats::{Pops, QueuePass, Seat, Telling};
 
 // Begins a job, in a hold of the lock. The gate was told of it, and of each before it.
-fn begin_in<S: PageStore, T: DeadRows + Drop, J: JobsOn<S>, K: JobList, G: Gate, R: Wait>(
+fn begin_in<
+    S: PageStore,
+    T: DeadRows + Drop,
+    J: JobsOn<S>,
+    K: JobList,
+    H: Telling + Send + Drop,
+    G: Gate<Hand = H>,
+    R: Wait,
+>(
     run: &RunContext<S, T, J, K, G, R>,
     seat: Seat<J>,
     job: u32,
     asked: &Job,
     room: Vec<Entry>,
-    _hand: &G::Hand,
+    _hand: &H,
 ) -> Turn<J>
-    requires told { G.Hand.told _hand.now ≡ jobs_in (known_by seat.pass).notes ++ job ∷ [] }
+    requires told { H.told _hand.now ≡ jobs_in (known_by seat.pass).notes ++ job ∷ [] }
     requires idle { (known_by seat.pass).job ≡ None }
     requires job { slice_get J.jobs job ≡ Some asked.now }
     requires empty { room.items ≡ [] }
