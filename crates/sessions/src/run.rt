@@ -37,7 +37,9 @@ use std::marker::Brand;
 use std::sync::Wait;
 use std::sync::ledger::Blank;
 use std::thread::Threads;
-use worker_seats::{Desk, JobQueue, QueuePass, SeatCell, SeatPass, fill, make_cell, make_queue};
+use worker_seats::{
+    Desk, JobQueue, QueuePass, SeatCell, SeatPass, Telling, fill, make_cell, make_queue,
+};
 use world::World;
 
 // The world given back, since there is no memory for a run on it.
@@ -110,7 +112,8 @@ fn run_named<
     T: DeadRows + Drop + Send,
     J: JobsOn<S> + Send + Sync,
     K: JobList + Send + Sync,
-    G: Gate + Sync,
+    H: Telling + Send + Drop,
+    G: Gate<Hand = H> + Sync,
     R: Threads + Wait + Sync,
 >(
     rt: &R,
@@ -126,7 +129,7 @@ fn run_named<
     jobs: &[Job],
     workers: u32,
     gate: &G,
-) -> Result<(Finished<S, T>, Vec<G::Hand>), NotRun<S, T>>
+) -> Result<(Finished<S, T>, Vec<H>), NotRun<S, T>>
     requires name { blank.name ≡ J.name }
     requires parts { blank.parts ≡ J.parts }
     requires all { blank.parts ≡ 65 }
@@ -157,11 +160,11 @@ fn run_named<
     ensures done { IfOk result (λ r.
         IsFinished S.PageStore T.DeadRows jobs.now workers world r.0) }
     ensures told { IfOk result (λ r.
-        HaveTold G.Hand.told workers r.1.items r.0.history.items) }
+        HaveTold H.told workers r.1.items r.0.history.items) }
 {
     let desk = Desk::new(cell, registry);
     let sessions = SessionDesk::new(session_cell, session_registry);
-    let Some(room) = make_room::<J, K, G::Hand>(
+    let Some(room) = make_room::<J, K, H>(
         alloc,
         desk,
         sessions,
@@ -191,7 +194,8 @@ fn run_listed<
     S: PageStore + Drop + Send,
     T: DeadRows + Drop + Send,
     K: JobList + Send + Sync,
-    G: Gate + Sync,
+    H: Telling + Send + Drop,
+    G: Gate<Hand = H> + Sync,
     R: Threads + Wait + Sync,
 >(
     rt: &R,
@@ -200,7 +204,7 @@ fn run_listed<
     jobs: &[Job],
     workers: u32,
     gate: &G,
-) -> Result<(Finished<S, T>, Vec<G::Hand>), NotRun<S, T>>
+) -> Result<(Finished<S, T>, Vec<H>), NotRun<S, T>>
     requires list { K.list ≡ jobs.now }
     requires limits { IsWithinLimits (length world.calls.slots.items) jobs.now workers }
     requires rests { AreIdle world.calls.slots.items }
@@ -209,7 +213,7 @@ fn run_listed<
     ensures done { IfOk result (λ r.
         IsFinished S.PageStore T.DeadRows jobs.now workers world r.0) }
     ensures told { IfOk result (λ r.
-        HaveTold G.Hand.told workers r.1.items r.0.history.items) }
+        HaveTold H.told workers r.1.items r.0.history.items) }
 {
     let Some((queue, pass)) = queue_of::<K, R>(rt, alloc, jobs) else {
         return Err(no_memory(world));
@@ -221,7 +225,7 @@ fn run_listed<
         return Err(no_memory(world));
     };
     let blank = Blank::new(65);
-    run_named::<S, T, Brand, K, G, R>(
+    run_named::<S, T, Brand, K, H, G, R>(
         rt,
         alloc,
         &queue,
@@ -268,7 +272,7 @@ pub fn run_told<
     if let Some(fault) = refusal(&world, jobs, workers) {
         return Err(NotRun { fault, world });
     }
-    run_listed::<S, T, Brand, G, R>(rt, alloc, world, jobs, workers, gate)
+    run_listed::<S, T, Brand, G::Hand, G, R>(rt, alloc, world, jobs, workers, gate)
 }
 
 /// Runs these jobs on the world, each by one of the workers, and gives it back with their records. The

@@ -63,7 +63,8 @@ fn start_all<
     T: DeadRows + Drop + Send + 's,
     J: JobsOn<S> + Send + Sync + 's,
     K: JobList + Send + Sync + 's,
-    G: Gate + Sync + 's,
+    H: Telling + Send + Drop + 's,
+    G: Gate<Hand = H> + Sync + 's,
     R: Threads + Wait + Sync + 's,
 >(
     scope: &'s Scope<'s, E>,
@@ -72,7 +73,7 @@ fn start_all<
     pass: &mut QueuePass<JobTicket<K>>,
     all: &mut Share<J>,
     pending: &mut Vec<Option<Pending>>,
-    handles: &mut Vec<PromisedHandle<Worker<J, JobTicket<K>, G::Hand>, Number>>,
+    handles: &mut Vec<PromisedHandle<Worker<J, JobTicket<K>, H>, Number>>,
     last: u32,
 ) -> bool
     requires few { last < 64 }
@@ -104,13 +105,13 @@ fn start_all<
         let mine = run.another(pass);
         let hand = run.gate.hand(w);
         pending.push_reserved(None);
-        let job = move || -> Worker<J, JobTicket<K>, G::Hand>
+        let job = move || -> Worker<J, JobTicket<K>, H>
             requires rests { (known_by seat.pass).job ≡ None }
             requires fresh { (known_by seat.pass).notes ≡ [] }
             requires pass { IsPassOf run.now.queue.now mine }
             requires part { (view mine).parts ≡ 1 }
             requires popped { (view mine).popped ≡ [] }
-            requires told { G.Hand.told hand ≡ [] }
+            requires told { H.told hand ≡ [] }
             ensures { result.seat.worker ≡ seat.worker }
         { worker_thread(run, seat, mine, hand) };
         match scope.spawn_with(Number(w), job) {
@@ -139,17 +140,25 @@ fn joined<J: Jobs, K: JobList, H: Telling + Drop, R: Threads>(
 }
 
 // Works as the last worker, joins the others, and works until no job is left: then the pass has every part.
-fn work_out<S: PageStore, T: DeadRows + Drop, J: JobsOn<S>, K: JobList, G: Gate, R: Threads + Wait>(
+fn work_out<
+    S: PageStore,
+    T: DeadRows + Drop,
+    J: JobsOn<S>,
+    K: JobList,
+    H: Telling + Send + Drop,
+    G: Gate<Hand = H>,
+    R: Threads + Wait,
+>(
     run: &RunContext<S, T, J, K, G, R>,
     started: Started<J>,
     own: Seat<J>,
     pass: QueuePass<JobTicket<K>>,
-    mut hand: G::Hand,
-    handles: Vec<PromisedHandle<Worker<J, JobTicket<K>, G::Hand>, Number>>,
-    returned: Vec<Worker<J, JobTicket<K>, G::Hand>>,
+    mut hand: H,
+    handles: Vec<PromisedHandle<Worker<J, JobTicket<K>, H>, Number>>,
+    returned: Vec<Worker<J, JobTicket<K>, H>>,
     mut seats: Vec<Seat<J>>,
-    mut hands: Vec<G::Hand>,
-) -> (Vec<Seat<J>>, QueuePass<JobTicket<K>>, Vec<G::Hand>)
+    mut hands: Vec<H>,
+) -> (Vec<Seat<J>>, QueuePass<JobTicket<K>>, Vec<H>)
     requires own { own.worker ≡ vec_len handles }
     requires rests { (known_by own.pass).job ≡ None }
     requires fresh { (known_by own.pass).notes ≡ [] }
@@ -161,12 +170,12 @@ fn work_out<S: PageStore, T: DeadRows + Drop, J: JobsOn<S>, K: JobList, G: Gate,
     requires returned { (returned.items ≡ []) × (vec_len handles < vec_capacity returned) }
     requires seats { (seats.items ≡ []) × (vec_len handles < vec_capacity seats) }
     requires hands { (hands.items ≡ []) × (vec_len handles < vec_capacity hands) }
-    requires told { G.Hand.told hand ≡ [] }
+    requires told { H.told hand ≡ [] }
     ensures len { vec_len result.0 ≡ vec_len handles + 1 }
     ensures held { vec_len result.2 ≡ vec_len handles + 1 }
     ensures told { (k : ℕ) → IfSome (slice_get result.0.items k)
         (λ s. IfSome (slice_get result.2.items k)
-        (λ h. G.Hand.told h ≡ jobs_in (known_by s.pass).notes)) }
+        (λ h. H.told h ≡ jobs_in (known_by s.pass).notes)) }
     ensures ranked { (k : ℕ) → IfSome (slice_get result.0.items k) (λ s. s.worker ≡ k) }
     ensures rest { (k : ℕ) → IfSome (slice_get result.0.items k)
         (λ s. (known_by s.pass).job ≡ None) }
@@ -201,16 +210,17 @@ pub fn run_threads<
     T: DeadRows + Drop + Send + 's,
     J: JobsOn<S> + Send + Sync + 's,
     K: JobList + Send + Sync + 's,
-    G: Gate + Sync + 's,
+    H: Telling + Send + Drop + 's,
+    G: Gate<Hand = H> + Sync + 's,
     R: Threads + Wait + Sync + 's,
 >(
     scope: &'s Scope<'s, E>,
     run: &'s RunContext<'s, S, T, J, K, G, R>,
     world: World<S, T>,
-    room: RunRoom<J, K, G::Hand>,
-    mut handles: Vec<PromisedHandle<Worker<J, JobTicket<K>, G::Hand>, Number>>,
+    room: RunRoom<J, K, H>,
+    mut handles: Vec<PromisedHandle<Worker<J, JobTicket<K>, H>, Number>>,
     last: u32,
-) -> Result<(World<S, T>, u64, Vec<Record>, Vec<G::Hand>), World<S, T>>
+) -> Result<(World<S, T>, u64, Vec<Record>, Vec<H>), World<S, T>>
     requires parts { J.parts ≡ 65 }
     requires handles { (handles.items ≡ []) × (last < vec_capacity handles) }
     requires workers { last + 1 ≡ J.workers }
@@ -223,7 +233,7 @@ pub fn run_threads<
     ensures err { IfErr result (λ w. w ≡ world) }
     ensures done { IfOk result (λ r. HasRun S.PageStore T.DeadRows J.stood J.kept_then J.followed J.handed
         J.jobs J.workers r.0 r.1 r.2.items) }
-    ensures told { IfOk result (λ r. HaveTold G.Hand.told J.workers r.3.items r.2.items) }
+    ensures told { IfOk result (λ r. HaveTold H.told J.workers r.3.items r.2.items) }
 {
     let RunRoom {
         mut desk,
@@ -255,7 +265,7 @@ pub fn run_threads<
     let own = open(&mut desk, all.split_off(1, 0), last);
     pending.push_reserved(None);
     let shared = first(world, history, pending, session_seats, book, desk, sessions);
-    let threads = all_started::<J, K, G::Hand>(&handles);
+    let threads = all_started::<J, K, H>(&handles);
     put(run, RunSlot::Open(shared, threads.again()));
     let hand = run.gate.hand(last);
     let (seats, pass, hands) = work_out(

@@ -183,14 +183,22 @@ fn turn<S: PageStore, T: DeadRows + Drop, J: JobsOn<S>, K: JobList, G: Gate, R: 
 }
 
 // Does a job from its beginning to its record.
-fn one_job<S: PageStore, T: DeadRows + Drop, J: JobsOn<S>, K: JobList, G: Gate, R: Wait>(
+fn one_job<
+    S: PageStore,
+    T: DeadRows + Drop,
+    J: JobsOn<S>,
+    K: JobList,
+    H: Telling + Send + Drop,
+    G: Gate<Hand = H>,
+    R: Wait,
+>(
     run: &RunContext<S, T, J, K, G, R>,
     my_turn: &mut WorkerTurn,
     seat: Seat<J>,
-    hand: &G::Hand,
+    hand: &H,
     ticket: JobTicket<K>,
 ) -> Seat<J>
-    requires told { G.Hand.told hand.now
+    requires told { H.told hand.now
         ≡ jobs_in (known_by seat.pass).notes ++ ticket.job ∷ [] }
     requires idle { (known_by seat.pass).job ≡ None }
     ensures worker { result.worker ≡ seat.worker }
@@ -224,14 +232,16 @@ fn one_job<S: PageStore, T: DeadRows + Drop, J: JobsOn<S>, K: JobList, G: Gate, 
 }
 
 // Tells the gate of a job. If that may wait for others, nobody waits for this worker meanwhile.
-fn tell<S: PageStore, T: DeadRows + Drop, J: JobsOn<S>, K: JobList, G: Gate, R: Wait>(
-    run: &RunContext<S, T, J, K, G, R>,
-    my_turn: &mut WorkerTurn,
-    hand: &mut G::Hand,
-    worker: u32,
-    job: u32,
-)
-    ensures { G.Hand.told hand.new ≡ G.Hand.told hand.old ++ job ∷ [] }
+fn tell<
+    S: PageStore,
+    T: DeadRows + Drop,
+    J: JobsOn<S>,
+    K: JobList,
+    H: Telling + Send + Drop,
+    G: Gate<Hand = H>,
+    R: Wait,
+>(run: &RunContext<S, T, J, K, G, R>, my_turn: &mut WorkerTurn, hand: &mut H, worker: u32, job: u32)
+    ensures { H.told hand.new ≡ H.told hand.old ++ job ∷ [] }
 {
     if !run.gate.may_wait() {
         run.gate.taken(hand, worker, job);
@@ -268,15 +278,23 @@ fn wait_for<S: PageStore, T: DeadRows + Drop, J: JobsOn<S>, K: JobList, G: Gate,
 
 /// Does jobs until the queue was empty, once all workers have started. The gate is told of each, once, after
 /// it is taken and before it begins.
-pub fn work<S: PageStore, T: DeadRows + Drop, J: JobsOn<S>, K: JobList, G: Gate, R: Wait>(
+pub fn work<
+    S: PageStore,
+    T: DeadRows + Drop,
+    J: JobsOn<S>,
+    K: JobList,
+    H: Telling + Send + Drop,
+    G: Gate<Hand = H>,
+    R: Wait,
+>(
     run: &RunContext<S, T, J, K, G, R>,
     started: &Started<J>,
     seat: Seat<J>,
     pass: QueuePass<JobTicket<K>>,
-    hand: &mut G::Hand,
+    hand: &mut H,
 ) -> (Seat<J>, QueuePass<JobTicket<K>>)
     requires idle { (known_by seat.pass).job ≡ None }
-    requires told { G.Hand.told hand.old ≡ jobs_in (known_by seat.pass).notes }
+    requires told { H.told hand.old ≡ jobs_in (known_by seat.pass).notes }
     requires queue { IsPassOf run.now.queue.now pass }
     requires part { 0 < (view pass).parts }
     ensures worker { result.0.worker ≡ seat.worker }
@@ -287,7 +305,7 @@ pub fn work<S: PageStore, T: DeadRows + Drop, J: JobsOn<S>, K: JobList, G: Gate,
     ensures did { (more : List (ℕ × ℕ))
         × ((known_by result.0.pass).notes ≡ (known_by seat.pass).notes ++ more)
         × ((view result.1).popped ≡ (view pass).popped ++ jobs_in more) }
-    ensures told { G.Hand.told hand.new ≡ jobs_in (known_by result.0.pass).notes }
+    ensures told { H.told hand.new ≡ jobs_in (known_by result.0.pass).notes }
     ensures empty { KnowsAll (view result.1) [] }
 {
     run.signals.rounds.begin_work(run.rt);

@@ -27,18 +27,26 @@ impl<J: Jobs, K: JobList, H: Telling> Promise<Worker<J, JobTicket<K>, H>> for Nu
 }
 
 /// A worker's thread: it waits until all have started, and works if the lock was opened.
-pub fn worker_thread<S: PageStore, T: DeadRows + Drop, J: JobsOn<S>, K: JobList, G: Gate, R: Wait>(
+pub fn worker_thread<
+    S: PageStore,
+    T: DeadRows + Drop,
+    J: JobsOn<S>,
+    K: JobList,
+    H: Telling + Send + Drop,
+    G: Gate<Hand = H>,
+    R: Wait,
+>(
     run: &RunContext<S, T, J, K, G, R>,
     seat: Seat<J>,
     pass: QueuePass<JobTicket<K>>,
-    mut hand: G::Hand,
-) -> Worker<J, JobTicket<K>, G::Hand>
+    mut hand: H,
+) -> Worker<J, JobTicket<K>, H>
     requires rests { (known_by seat.pass).job ≡ None }
     requires fresh { (known_by seat.pass).notes ≡ [] }
     requires pass { IsPassOf run.now.queue.now pass }
     requires part { (view pass).parts ≡ 1 }
     requires popped { (view pass).popped ≡ [] }
-    requires told { G.Hand.told hand ≡ [] }
+    requires told { H.told hand ≡ [] }
     ensures { result.seat.worker ≡ seat.worker }
 {
     let started = {

@@ -15,6 +15,6 @@ returns-clause-told g c =
     let hands = out.result.2 in
     record {
       each_has = sym hands.ok.0 ∙ out.ensures.held ∙ search rules;
-      told_are = told_of_records g.G.Hand.Telling.told (λ s. (known_by s.pass).notes) seats.items hands.items c.ended-world.result.2.items
+      told_are = told_of_records g.H.Telling.told (λ s. (known_by s.pass).notes) seats.items hands.items c.ended-world.result.2.items
           (sym hands.ok.0 ∙ out.ensures.held ∙ sym (sym seats.ok.0 ∙ out.ensures.len)) out.ensures.told c.ended-world.ensures.notes;
     }

@@ -58,7 +58,7 @@ pub returns-clause-told : goal.returns-clause-told
 returns-clause-told g c k =
     let returned = c.joined-returned.result in
     let own = c.work-own-2 in
-    let told = g.G.Hand.Telling.told in
+    let told = g.H.Telling.told in
     let seats = c.push_reserved.ensures.items ∙ ap (λ l. l ++ own.result.0 ∷ []) (c.gather.ensures.seats ∙ ap (λ l. l ++ map (λ w. w.seat) returned.items) c.requires.seats.0) in
     let hands = c.push_reserved-2.ensures.items ∙ ap (λ l. l ++ own.new.hand ∷ []) (c.gather.ensures.hands ∙ ap (λ l. l ++ map (λ w. w.hand) returned.items) c.requires.hands.0) in
     subst (λ l. IfSome (slice_get l k) (λ s. IfSome (slice_get c.push_reserved-2.new.self.items k) (λ h. told h ≡ jobs_in (known_by s.pass).notes))) (sym seats)

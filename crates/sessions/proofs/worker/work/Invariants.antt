@@ -8,4 +8,4 @@ invariant-loop g l =
     (l.mine.worker ≡ l.fn.seat.worker) × ((known_by l.mine.pass).job ≡ None)
     × IsPassOf l.run.queue.now l.own × ((view l.own).parts ≡ (view l.fn.pass).parts) × ((view l.own).pushed ≡ (view l.fn.pass).pushed)
     × ((more : List (ℕ × ℕ)) × ((known_by l.mine.pass).notes ≡ (known_by l.fn.seat.pass).notes ++ more) × ((view l.own).popped ≡ (view l.fn.pass).popped ++ jobs_in more))
-    × (g.G.Hand.Telling.told l.hand ≡ jobs_in (known_by l.mine.pass).notes)
+    × (g.H.Telling.told l.hand ≡ jobs_in (known_by l.mine.pass).notes)
