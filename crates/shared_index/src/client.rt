@@ -48,12 +48,18 @@ pub struct Worked<S: PageStore, T: DeadRows + Drop, J: OriginOn<S>, C: Client<S,
 }
 
 /// The work of the client by this session.
-pub fn do_work<S: PageStore, T: DeadRows + Drop, J: OriginOn<S>, C: Client<S, T>>(
+pub fn do_work<
+    S: PageStore,
+    T: DeadRows + Drop,
+    J: OriginOn<S>,
+    O: Send + Drop,
+    C: Client<S, T, Out = O>,
+>(
     index: &SharedIndex<S, T, J>,
     client: &C,
     mut session: SharedSession<J>,
     number: u32,
-    kind: PhantomData<C::Out>,
+    kind: PhantomData<O>,
 ) -> Worked<S, T, J, C>
     requires fresh { calls_had session.seat ≡ [] }
     requires rests { open_scan session.seat ≡ None }

@@ -33,7 +33,8 @@ fn start_all<
     S: PageStore + Drop + Send + 's,
     T: DeadRows + Drop + Send + 's,
     J: OriginOn<S> + Send + Sync + 's,
-    C: Client<S, T> + Sync + 's,
+    O: Send + Drop + 's,
+    C: Client<S, T, Out = O> + Sync + 's,
 >(
     scope: &'s Scope<'s, E>,
     index: &'s SharedIndex<S, T, J>,
@@ -48,7 +49,7 @@ fn start_all<
 {
     for session in rest {
         let number = session.number();
-        let kind: PhantomData<C::Out> = PhantomData;
+        let kind: PhantomData<O> = PhantomData;
         let job = move || -> Worked<S, T, J, C>
             requires fresh { calls_had session.seat ≡ [] }
             requires rests { open_scan session.seat ≡ None }
@@ -65,12 +66,19 @@ fn start_all<
 }
 
 // Joins the threads, in order: behind the first session and its answer stand theirs.
-fn joined<S: PageStore, T: DeadRows + Drop, J: OriginOn<S>, C: Client<S, T>, R: Threads>(
+fn joined<
+    S: PageStore,
+    T: DeadRows + Drop,
+    J: OriginOn<S>,
+    O: Send + Drop,
+    C: Client<S, T, Out = O>,
+    R: Threads,
+>(
     rt: &R,
     handles: Vec<PromisedHandle<Worked<S, T, J, C>, SeatNumber>>,
     mut sessions: Vec<SharedSession<J>>,
-    mut outs: Vec<C::Out>,
-) -> (Vec<SharedSession<J>>, Vec<C::Out>)
+    mut outs: Vec<O>,
+) -> (Vec<SharedSession<J>>, Vec<O>)
     requires numbers { (k : ℕ) → IfSome (slice_get handles.items k) (λ h. h.promise.0 ≡ suc k) }
     requires first { vec_len sessions ≡ 1 }
     requires sessions { vec_len handles < vec_capacity sessions }
@@ -100,7 +108,8 @@ pub fn work_all<
     S: PageStore + Drop + Send + 's,
     T: DeadRows + Drop + Send + 's,
     J: OriginOn<S> + Send + Sync + 's,
-    C: Client<S, T> + Sync + 's,
+    O: Send + Drop + 's,
+    C: Client<S, T, Out = O> + Sync + 's,
     R: Threads,
 >(
     scope: &'s Scope<'s, E>,
@@ -111,8 +120,8 @@ pub fn work_all<
     rest: Vec<SharedSession<J>>,
     handles: Vec<PromisedHandle<Worked<S, T, J, C>, SeatNumber>>,
     mut sessions: Vec<SharedSession<J>>,
-    mut outs: Vec<C::Out>,
-) -> (Vec<SharedSession<J>>, Vec<C::Out>)
+    mut outs: Vec<O>,
+) -> (Vec<SharedSession<J>>, Vec<O>)
     requires first { standing_of first ≡ ((0, []), None) }
     requires fresh { AreFresh 1 rest.items }
     requires handles { (handles.items ≡ []) × (vec_len rest ≤ vec_capacity handles) }
