@@ -108,7 +108,14 @@ pub fn execute_for_status<
 >(rt: &F, alloc: Global, words: &[S], input: &mut R, out: &mut W, err: &mut E) -> u8
     ensures low { result ≤ 2 }
 {
-    execute::<F, B, S, R, W, E>(rt, alloc, words, input, out, err).status
+    status_of_done(execute::<F, B, S, R, W, E>(rt, alloc, words, input, out, err))
+}
+
+// What was executed is let go, whatever it left.
+fn status_of_done<D: Drop, N: Drop, T: Drop>(done: Executed<'_, D, N, T>) -> u8
+    ensures status { result ≡ done.entry.status }
+{
+    done.status
 }
 
 /// The status of a command that ended so, and whose output was flushed so. A refusal is printed.
