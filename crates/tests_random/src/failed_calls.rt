@@ -1,6 +1,7 @@
 //! Scripts during which device calls fail: each call of the device that a script makes fails once, and each
 //! with all after it.
 
+use crate::crashes::OverDevices;
 use crate::dice::Space;
 use crate::failing::{fails, play};
 use crate::gates::stops_right;
@@ -45,11 +46,11 @@ fn scripted_on(alloc: Global, items: u32, pages: u32, unique: bool) -> Run {
 /// second is stopped at each of its calls.
 fn each_fails<R: Abort>(rt: &R, run: Run, script: &Script) -> Result<(), Fail> {
     let mut counted = Counted::default();
-    let script = play(run, script)?;
+    let script = play::<OverDevices>(run, script)?;
     for call in 0..script.calls {
         let n = call.saturating_add(1);
-        let once = fails(run, &script, n, false, &mut counted)?;
-        let for_good = fails(run, &script, n, true, &mut counted)?;
+        let once = fails::<OverDevices>(run, &script, n, false, &mut counted)?;
+        let for_good = fails::<OverDevices>(run, &script, n, true, &mut counted)?;
         assert!(rt; once && for_good, "{n}: {once} {for_good} {counted:?}");
     }
     assert!(rt;
@@ -111,7 +112,7 @@ fn gate_sync_fails(rt: HostRuntime) -> Result<(), Fail> {
     let run = scripted(rt.alloc(), 4, 16);
     let mut counted = Counted::default();
     for call in 1..1_000u64 {
-        match stops_right(run, call, &mut counted)? {
+        match stops_right::<OverDevices>(run, call, &mut counted)? {
             Some(is_right) => assert!(rt; is_right, "{call}: {counted:?}"),
             None => break,
         }

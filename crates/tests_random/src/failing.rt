@@ -1,19 +1,17 @@
 //! Scripts during which calls of the device fail: each once in turn, and each with all after it.
 
-use crate::crashes::{FOR_ALL, OverDevice, on_a_device};
+use crate::crashes::{FOR_ALL, Opens, on_a_device};
 use crate::judge::Judge;
 use crate::pages::copies;
 use crate::reopening::{Counted, opens_right, stops_opening};
 use crate::runs::{Run, fault_of, judge_of, one};
 use crate::scripts::{Line, Script};
 use index_model::Fault;
-use page_action::PageStore;
 use session_calls::Answer;
 use std::alloc::AllocError;
 use std::test::Fail;
-use tests_support::dead::Blocks;
 use tests_support::plain::{fail_at, one as did, stop_at};
-use world::World;
+use tests_support::plain_world::{DeviceWorld, PlainWorld};
 
 /// A script whose lines are made once each, each with its answer if no call fails.
 #[derive(Drop)]
@@ -26,20 +24,20 @@ pub struct Played {
 }
 
 /// An empty index at whose pages a judge has looked, so that they are in memory.
-fn looked_at(run: Run) -> Result<OverDevice, Fail> {
-    let mut world = on_a_device(run, FOR_ALL)?;
+fn looked_at<O: Opens>(run: Run) -> Result<O::World, Fail> {
+    let mut world = on_a_device::<O>(run, FOR_ALL)?;
     copies(run.alloc, &mut world)?;
     Ok(world)
 }
 
 /// How many calls of its device a world has made.
-fn calls_of(world: OverDevice) -> u64 {
-    world.into_store().into_device().calls()
+fn calls_of<O: Opens>(world: O::World) -> u64 {
+    O::device_of(world).calls()
 }
 
 /// Makes what a line says, once or to the end of its call, and notes it each time with its answer.
-fn play_line<S: PageStore>(
-    world: &mut World<S, Blocks>,
+fn play_line<W: PlainWorld>(
+    world: &mut W,
     line: Line,
     played: &mut Played,
 ) -> Result<(), AllocError> {
@@ -56,9 +54,9 @@ fn play_line<S: PageStore>(
 
 /// Runs a script over a new index, in which no call fails. A force, a flush and a checkpoint stand after it.
 /// Their calls aren't counted yet.
-fn play_lines<S: PageStore>(
+fn play_lines<W: PlainWorld>(
     run: Run,
-    world: &mut World<S, Blocks>,
+    world: &mut W,
     script: &Script,
 ) -> Result<Played, AllocError> {
     let mut played = Played {
@@ -76,11 +74,11 @@ fn play_lines<S: PageStore>(
 }
 
 /// So, and counts the calls of the device.
-pub fn play(run: Run, script: &Script) -> Result<Played, Fail> {
-    let fresh = calls_of(looked_at(run)?);
-    let mut world = looked_at(run)?;
+pub fn play<O: Opens>(run: Run, script: &Script) -> Result<Played, Fail> {
+    let fresh = calls_of::<O>(looked_at::<O>(run)?);
+    let mut world = looked_at::<O>(run)?;
     let played = play_lines(run, &mut world, script);
-    let calls = calls_of(world).saturating_sub(fresh);
+    let calls = calls_of::<O>(world).saturating_sub(fresh);
     let mut played = played?;
     played.calls = calls;
     Ok(played)
@@ -115,9 +113,9 @@ fn are_alike(a: &Answer, b: &Answer) -> bool {
 
 /// Runs the events of a script, of which the judge hears, while a call fails: whether all is right, each
 /// answer before is that of the undisturbed run, and the first other one tells of the failure.
-fn replays<S: PageStore>(
+fn replays<W: PlainWorld>(
     run: Run,
-    world: &mut World<S, Blocks>,
+    world: &mut W,
     judge: &mut Judge,
     script: &Played,
 ) -> Result<bool, AllocError> {
@@ -138,7 +136,7 @@ fn replays<S: PageStore>(
 }
 
 /// From the nth device call on one fails, or all.
-fn will_fail(world: &mut OverDevice, n: u64, for_good: bool) {
+fn will_fail<W: DeviceWorld>(world: &mut W, n: u64, for_good: bool) {
     if for_good {
         stop_at(world, n);
     } else {
@@ -149,23 +147,23 @@ fn will_fail(world: &mut OverDevice, n: u64, for_good: bool) {
 /// Whether the run in which the nth call fails, once or with all after it, is right, and then what is opened
 /// after a crash of each kind. If all fail, an opening is stopped at some of its calls too, and what is
 /// opened after that is right.
-pub fn fails(
+pub fn fails<O: Opens>(
     run: Run,
     script: &Played,
     n: u64,
     for_good: bool,
     counted: &mut Counted,
 ) -> Result<bool, Fail> {
-    let mut world = looked_at(run)?;
+    let mut world = looked_at::<O>(run)?;
     will_fail(&mut world, n, for_good);
     counted.failed = counted.failed.saturating_add(1);
-    is_right_then(run, &mut world, script, n, for_good, counted)
+    is_right_then::<O>(run, &mut world, script, n, for_good, counted)
 }
 
 /// The run of a world whose nth call fails, and what is opened after it.
-fn is_right_then(
+fn is_right_then<O: Opens>(
     run: Run,
-    world: &mut OverDevice,
+    world: &mut O::World,
     script: &Played,
     n: u64,
     for_good: bool,
@@ -173,9 +171,9 @@ fn is_right_then(
 ) -> Result<bool, Fail> {
     let mut judge = judge_of(run, world)?;
     let is_right = replays(run, world, &mut judge, script).unwrap_or(false)
-        && opens_right(run, world, &mut judge, n, counted)?;
+        && opens_right::<O>(run, world, &mut judge, n, counted)?;
     if !is_right || !for_good {
         return Ok(is_right);
     }
-    stops_opening(run, world, &mut judge, n, counted)
+    stops_opening::<O>(run, world, &mut judge, n, counted)
 }

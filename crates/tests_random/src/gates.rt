@@ -1,20 +1,18 @@
 //! A force whose last sync fails has written its gate: whether what it forced stands isn't known, and each
 //! opening after it is stopped at each of its calls.
 
-use crate::crashes::{FOR_ALL, OverDevice, is_sound, on_a_device, opened, store_of};
+use crate::crashes::{FOR_ALL, Opens, on_a_device};
 use crate::pages::{contents, copies};
 use crate::reopening::{Counted, IMAGES, stopped_at};
 use crate::runs::Run;
 use device::MemDevice;
 use index_model::{Entry, Fault, Key, RowAddr};
-use page_action::PageStore;
 use schedule::Event;
 use session_calls::Answer;
 use std::alloc::AllocError;
 use std::test::Fail;
-use tests_support::dead::Blocks;
 use tests_support::plain::{fail_at, left, one as did, put};
-use world::World;
+use tests_support::plain_world::PlainWorld;
 
 /// The entries 61 (0,1) to 65 (0,5), from 0 on.
 fn entry(place: u8) -> Entry {
@@ -27,12 +25,12 @@ fn entry(place: u8) -> Entry {
 
 /// The device on which four inserts were forced, and a fifth one not: the sync of the gate of its force
 /// failed, its fourth call.
-fn left_open(run: Run) -> Result<MemDevice, Fail> {
-    let mut world = on_a_device(run, FOR_ALL)?;
+fn left_open<O: Opens>(run: Run) -> Result<MemDevice, Fail> {
+    let mut world = on_a_device::<O>(run, FOR_ALL)?;
     let is_forced = forces_four(&mut world);
     fail_at(&mut world, 4);
     let is_refused = is_refused(&mut world);
-    let device = into_device(world);
+    let device = O::device_of(world);
     if is_forced && is_refused {
         Ok(device)
     } else {
@@ -41,7 +39,7 @@ fn left_open(run: Run) -> Result<MemDevice, Fail> {
 }
 
 /// Whether four inserts are forced, and a fifth one is made.
-fn forces_four<S: PageStore>(world: &mut World<S, Blocks>) -> bool {
+fn forces_four<W: PlainWorld>(world: &mut W) -> bool {
     for place in 0..4u8 {
         if put(world, 0, entry(place), 4).is_err() {
             return false;
@@ -51,12 +49,8 @@ fn forces_four<S: PageStore>(world: &mut World<S, Blocks>) -> bool {
 }
 
 /// Whether a force is refused with `Io`.
-fn is_refused<S: PageStore>(world: &mut World<S, Blocks>) -> bool {
+fn is_refused<W: PlainWorld>(world: &mut W) -> bool {
     matches!(did(world, Event::Force), Answer::Refused(Fault::Io))
-}
-
-fn into_device(world: OverDevice) -> MemDevice {
-    world.into_store().into_device()
 }
 
 /// Whether these are the first four entries, or all five.
@@ -70,28 +64,25 @@ fn are_four_or_five(entries: &[Entry]) -> bool {
 }
 
 /// Whether a world has the first four entries or all five.
-fn has_four_or_five<S: PageStore>(
-    run: Run,
-    world: &mut World<S, Blocks>,
-) -> Result<bool, AllocError> {
+fn has_four_or_five<W: PlainWorld>(run: Run, world: &mut W) -> Result<bool, AllocError> {
     let pages = copies(run.alloc, world)?;
     Ok(are_four_or_five(&contents(run.alloc, &pages)?))
 }
 
 /// Whether what a crash has left has the first four entries or all five, and the verifier finds no damage.
 /// Without memory for the pages it isn't right.
-fn is_right(run: Run, found: MemDevice) -> Result<bool, Fail> {
-    let mut world = opened(run, FOR_ALL, found)?;
+fn is_right<O: Opens>(run: Run, found: MemDevice) -> Result<bool, Fail> {
+    let mut world = O::opened(run, FOR_ALL, found)?;
     let has_entries = has_four_or_five(run, &mut world).unwrap_or(false);
-    let mut store = store_of(world);
-    Ok(has_entries && is_sound(run.alloc, &mut store))
+    let mut store = O::store_of(world);
+    Ok(has_entries && O::is_sound(run.alloc, &mut store))
 }
 
 /// Whether each image of a crash of this device is right.
-fn are_right(run: Run, device: &MemDevice, counted: &mut Counted) -> Result<bool, Fail> {
+fn are_right<O: Opens>(run: Run, device: &MemDevice, counted: &mut Counted) -> Result<bool, Fail> {
     for image in IMAGES {
         counted.opened = counted.opened.saturating_add(1);
-        if !is_right(run, left(run.alloc, device, image)?)? {
+        if !is_right::<O>(run, left(run.alloc, device, image)?)? {
             return Ok(false);
         }
     }
@@ -100,10 +91,14 @@ fn are_right(run: Run, device: &MemDevice, counted: &mut Counted) -> Result<bool
 
 /// Whether all is right if the opening is stopped at this call: it is refused, and each image of the device
 /// that it gives back is right. None if it makes fewer calls.
-pub fn stops_right(run: Run, call: u64, counted: &mut Counted) -> Result<Option<bool>, Fail> {
-    let Some(device) = stopped_at(run, left_open(run)?, call)? else {
+pub fn stops_right<O: Opens>(
+    run: Run,
+    call: u64,
+    counted: &mut Counted,
+) -> Result<Option<bool>, Fail> {
+    let Some(device) = stopped_at::<O>(run, left_open::<O>(run)?, call)? else {
         return Ok(None);
     };
     counted.stopped = counted.stopped.saturating_add(1);
-    Ok(Some(are_right(run, &device, counted)?))
+    Ok(Some(are_right::<O>(run, &device, counted)?))
 }

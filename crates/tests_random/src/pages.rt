@@ -1,18 +1,14 @@
 //! All pages of a world.
 
-use index_model::{DeadRows, Entry};
-use page_action::PageStore;
+use index_model::Entry;
 use page_codec::{Items, Page, PageState};
 use std::alloc::{AllocError, Global};
 use tests_reference::is_among;
 use tests_support::plain::page_in;
-use world::World;
+use tests_support::plain_world::PlainWorld;
 
 /// Copies of all pages; of fewer, if a page is refused.
-pub fn copies<S: PageStore, T: DeadRows + Drop>(
-    alloc: Global,
-    world: &mut World<S, T>,
-) -> Result<Vec<Page>, AllocError> {
+pub fn copies<W: PlainWorld>(alloc: Global, world: &mut W) -> Result<Vec<Page>, AllocError> {
     let mut pages = Vec::new(alloc);
     for block in 0..world.used() {
         if let Ok(page) = page_in(world, block) {
@@ -46,7 +42,7 @@ pub fn is_same(a: &Page, b: &Page) -> bool {
 }
 
 /// Whether the world's pages are these.
-pub fn are_kept<S: PageStore, T: DeadRows + Drop>(world: &mut World<S, T>, pages: &[Page]) -> bool {
+pub fn are_kept<W: PlainWorld>(world: &mut W, pages: &[Page]) -> bool {
     if world.used() as usize != pages.len() {
         return false;
     }

@@ -5,13 +5,11 @@ use crate::judge::Judge;
 use crate::pages::{are_kept, contents, copies};
 use crate::tally::Tally;
 use index_model::{Fault, Limits, Range};
-use page_action::PageStore;
 use schedule::Event;
 use session_calls::Answer;
 use std::alloc::{AllocError, Global};
-use tests_support::dead::Blocks;
 use tests_support::plain;
-use world::World;
+use tests_support::plain_world::PlainWorld;
 
 /// What stays the same in a run.
 #[derive(Clone, Copy)]
@@ -29,7 +27,7 @@ pub struct Outcome {
 }
 
 /// A judge of a world without calls that has made no action.
-pub fn judge_of<S: PageStore>(run: Run, world: &mut World<S, Blocks>) -> Result<Judge, AllocError> {
+pub fn judge_of<W: PlainWorld>(run: Run, world: &mut W) -> Result<Judge, AllocError> {
     let pages = copies(run.alloc, world)?;
     let start = contents(run.alloc, &pages)?;
     Judge::new(run.alloc, run.limits.unique, run.space, pages, start)
@@ -50,9 +48,9 @@ pub fn session_of(event: &Event) -> u32 {
 }
 
 /// Keeps the action that the session's call just made: whether it is right.
-pub fn acts<S: PageStore>(
+pub fn acts<W: PlainWorld>(
     alloc: Global,
-    world: &mut World<S, Blocks>,
+    world: &mut W,
     judge: &mut Judge,
     session: u32,
 ) -> Result<bool, AllocError> {
@@ -72,7 +70,7 @@ pub fn fault_of(answer: &Answer) -> Option<Fault> {
 
 /// Whether what the answer calls full is full: each block is used, or the log has no room for the images of
 /// an act, which are four at most.
-pub fn is_full<S: PageStore>(world: &World<S, Blocks>, limits: Limits, answer: &Answer) -> bool {
+pub fn is_full<W: PlainWorld>(world: &W, limits: Limits, answer: &Answer) -> bool {
     match fault_of(answer) {
         Some(Fault::IndexFull) => world.used() == limits.pages,
         Some(Fault::LogFull) => world.room() < 4,
@@ -81,22 +79,22 @@ pub fn is_full<S: PageStore>(world: &World<S, Blocks>, limits: Limits, answer: &
 }
 
 /// Whether the same sessions run calls.
-pub fn are_running<S: PageStore>(world: &World<S, Blocks>, judge: &Judge, sessions: u32) -> bool {
+pub fn are_running<W: PlainWorld>(world: &W, judge: &Judge, sessions: u32) -> bool {
     (0..sessions).all(|session| world.is_running(session) == judge.is_running(session))
 }
 
 /// Whether the world has made the actions and runs the calls that the judge knows, and what the answer calls
 /// full is full.
-fn agree<S: PageStore>(run: Run, world: &World<S, Blocks>, judge: &Judge, answer: &Answer) -> bool {
+fn agree<W: PlainWorld>(run: Run, world: &W, judge: &Judge, answer: &Answer) -> bool {
     world.actions() == judge.actions() as u64
         && are_running(world, judge, run.space.sessions)
         && is_full(world, run.limits, answer)
 }
 
 /// Does one event: its answer, or None if that is wrong, or what it has done.
-pub fn one<S: PageStore>(
+pub fn one<W: PlainWorld>(
     run: Run,
-    world: &mut World<S, Blocks>,
+    world: &mut W,
     judge: &mut Judge,
     event: Event,
 ) -> Result<Option<Answer>, AllocError> {
@@ -112,9 +110,9 @@ pub fn one<S: PageStore>(
 }
 
 /// Does one event: whether its answer is right, and what it has done.
-pub fn is_right<S: PageStore>(
+pub fn is_right<W: PlainWorld>(
     run: Run,
-    world: &mut World<S, Blocks>,
+    world: &mut W,
     judge: &mut Judge,
     event: Event,
 ) -> Result<bool, AllocError> {
@@ -122,9 +120,9 @@ pub fn is_right<S: PageStore>(
 }
 
 /// So many random events: whether all are right.
-pub fn are_right<S: PageStore>(
+pub fn are_right<W: PlainWorld>(
     run: Run,
-    world: &mut World<S, Blocks>,
+    world: &mut W,
     judge: &mut Judge,
     dice: &mut Dice,
     events: u32,
@@ -140,11 +138,7 @@ pub fn are_right<S: PageStore>(
 
 /// Takes what the call of session 0 has ready, and makes a step of it: whether both are right, and nothing
 /// blocks it.
-fn goes_on<S: PageStore>(
-    run: Run,
-    world: &mut World<S, Blocks>,
-    judge: &mut Judge,
-) -> Result<bool, AllocError> {
+fn goes_on<W: PlainWorld>(run: Run, world: &mut W, judge: &mut Judge) -> Result<bool, AllocError> {
     for _ in 0..50 {
         match one(run, world, judge, Event::Next(0))? {
             Some(Answer::Gave(Some(_))) => {}
@@ -160,9 +154,9 @@ fn goes_on<S: PageStore>(
 
 /// Begins a call of session 0, which alone has one, and runs it to its end: whether all of it is right, and
 /// nothing blocks it.
-pub fn runs_alone<S: PageStore>(
+pub fn runs_alone<W: PlainWorld>(
     run: Run,
-    world: &mut World<S, Blocks>,
+    world: &mut W,
     judge: &mut Judge,
     event: Event,
 ) -> Result<bool, AllocError> {
@@ -181,9 +175,9 @@ pub fn runs_alone<S: PageStore>(
 }
 
 /// Gives each call up: whether that is right.
-fn gives_all_up<S: PageStore>(
+fn gives_all_up<W: PlainWorld>(
     run: Run,
-    world: &mut World<S, Blocks>,
+    world: &mut W,
     judge: &mut Judge,
 ) -> Result<bool, AllocError> {
     for session in 0..run.space.sessions {
@@ -197,9 +191,9 @@ fn gives_all_up<S: PageStore>(
 /// Gives each call up, and then inserts some entries, deletes those of one row and scans all, alone. Whether
 /// that is right: nothing blocks it, the delete tells how many entries are left, and the scan gives exactly
 /// the contents.
-pub fn ends_right<S: PageStore>(
+pub fn ends_right<W: PlainWorld>(
     run: Run,
-    world: &mut World<S, Blocks>,
+    world: &mut W,
     judge: &mut Judge,
     dice: &mut Dice,
 ) -> Result<bool, AllocError> {

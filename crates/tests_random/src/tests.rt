@@ -4,11 +4,12 @@ use crate::dice::{Dice, Space};
 use crate::runs::{Outcome, Run, are_right, ends_right, judge_of};
 use crate::tally::Tally;
 use index_model::{Fault, Limits};
-use page_action::{MapStore, PageStore};
+use page_action::MapStore;
 use std::alloc::{AllocError, Global};
 use std::test::{Fail, *};
 use tests_support::dead::Blocks;
 use tests_support::plain::world;
+use tests_support::plain_world::PlainWorld;
 use tests_support::small::pages;
 use world::World;
 
@@ -24,9 +25,9 @@ fn in_memory(run: Run) -> Result<World<MapStore, Blocks>, Fault> {
 }
 
 /// A run over an index in memory.
-fn run_over<S: PageStore>(
+fn run_over<W: PlainWorld>(
     run: Run,
-    world: &mut World<S, Blocks>,
+    world: &mut W,
     seed: u64,
     events: u32,
 ) -> Result<Outcome, AllocError> {

@@ -1,18 +1,12 @@
 //! The sound indexes.
 
-use crate::plain::{copy, into_device};
-use access_method::Index;
-use device::{Device, MemDevice};
+use crate::plain::copy;
+use device::MemDevice;
 use index_model::{Entry, Fault, Key, Limits, RowAddr};
-use page_action::PageStore;
-use page_store::Store;
 use std::alloc::Global;
-use tests_support::plain::{
-    checkpoint_of as checkpoint, commit, create, device, index_over, insert, open,
-};
-
-/// An index of one user in memory.
-type InMemory = Index<Store<MemDevice>>;
+use tests_support::medium::{Medium, Opened};
+use tests_support::plain::{checkpoint_of as checkpoint, commit, create, device, insert};
+use tests_support::plain_index::PlainIndex;
 
 /// The bytes of a device of 32 pages: a superblock, the log, the pages.
 pub const LEN: u64 = 4_096 + 65_536 + 4_096 * 32;
@@ -51,26 +45,8 @@ fn made(alloc: Global, pages: u32, unique: bool) -> Result<MemDevice, Fault> {
     Ok(device)
 }
 
-/// The index on a device.
-fn opened<D: Device + Drop>(alloc: Global, device: D) -> Result<Index<Store<D>>, Fault> {
-    match open(alloc, device, FRAMES) {
-        Ok(store) => index_over(alloc, store),
-        Err(refused) => Err(refused.fault),
-    }
-}
-
-/// An empty index.
-fn empty(alloc: Global, pages: u32, unique: bool) -> Result<InMemory, Fault> {
-    opened(alloc, made(alloc, pages, unique)?)
-}
-
-/// What a crash keeps of it.
-fn left(alloc: Global, index: InMemory) -> Result<MemDevice, Fault> {
-    copy(alloc, &into_device(index))
-}
-
 /// Inserts the entries from there to there, in shuffled order.
-fn fill<S: PageStore>(index: &mut Index<S>, from: u32, to: u32) -> Result<(), Fault> {
+fn fill<I: PlainIndex>(index: &mut I, from: u32, to: u32) -> Result<(), Fault> {
     for i in from..to {
         insert(index, entry(1 + i.wrapping_mul(7) % ENTRIES))?;
     }
@@ -78,7 +54,7 @@ fn fill<S: PageStore>(index: &mut Index<S>, from: u32, to: u32) -> Result<(), Fa
 }
 
 /// Inserts all, with a checkpoint before the last ones and a commit after them.
-fn fill_all<S: PageStore>(index: &mut Index<S>) -> Result<(), Fault> {
+fn fill_all<I: PlainIndex>(index: &mut I) -> Result<(), Fault> {
     fill(index, 0, 27)?;
     checkpoint(index)?;
     fill(index, 27, ENTRIES)?;
@@ -87,7 +63,7 @@ fn fill_all<S: PageStore>(index: &mut Index<S>) -> Result<(), Fault> {
 }
 
 /// Inserts five entries, with a checkpoint after them.
-fn fill_five<S: PageStore>(index: &mut Index<S>) -> Result<(), Fault> {
+fn fill_five<I: PlainIndex>(index: &mut I) -> Result<(), Fault> {
     for number in 1..6u8 {
         insert(
             index,
@@ -105,22 +81,31 @@ enum Content {
     Five,
 }
 
-fn put<S: PageStore>(index: &mut Index<S>, content: Content) -> Result<(), Fault> {
+fn put<I: PlainIndex>(index: &mut I, content: Content) -> Result<(), Fault> {
     match content {
         Content::All => fill_all(index),
         Content::Five => fill_five(index),
     }
 }
 
-/// What a crash keeps of an index of so many pages, with this in it.
-fn filled(alloc: Global, pages: u32, unique: bool, content: Content) -> Result<MemDevice, Fault> {
-    let mut index = empty(alloc, pages, unique)?;
+// What a crash keeps of an index of so many pages, with this in it.
+fn filled_in<M: Medium<MemDevice>>(
+    alloc: Global,
+    pages: u32,
+    unique: bool,
+    content: Content,
+) -> Result<MemDevice, Fault> {
+    let mut index = M::index(alloc, made(alloc, pages, unique)?, FRAMES)?;
     let done = put(&mut index, content);
-    let device = left(alloc, index)?;
+    let device = copy(alloc, &M::device_under(index))?;
     match done {
         Ok(()) => Ok(device),
         Err(fault) => Err(fault),
     }
+}
+
+fn filled(alloc: Global, pages: u32, unique: bool, content: Content) -> Result<MemDevice, Fault> {
+    filled_in::<Opened>(alloc, pages, unique, content)
 }
 
 /// What a crash keeps of an index of three levels, unique or not, after a checkpoint and a commit: the last

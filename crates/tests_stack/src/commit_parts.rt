@@ -1,16 +1,13 @@
 //! Commits of an index of one user that go in parts, between other calls.
 
-use access_method::Index;
 use device::{CrashImage, MemDevice};
 use index_model::{Entry, Fault};
-use page_action::PageStore;
-use page_store::Store;
 use redo_log::Advance;
 use std::alloc::Global;
 use std::test::{Fail, *};
-use tests_support::plain::{
-    advance_commit, begin_scan, commit, end_scan, insert, left, next, open_index,
-};
+use tests_support::medium::{MemoryMedium, Opened};
+use tests_support::plain::{begin_scan, commit, end_scan, insert, left, next};
+use tests_support::plain_index::PlainIndex;
 use tests_support::small::{ALL, entry, made};
 
 // The entry of this key, and of the row of that number.
@@ -19,8 +16,8 @@ fn of(key: u8) -> Entry {
 }
 
 // The next part of a commit: 0 if nothing waits, 1 if its first sync is next, 2 if its last one is.
-fn part(index: &mut Index<Store<MemDevice>>) -> Result<u32, Fault> {
-    Ok(match advance_commit(index)? {
+fn part<M: MemoryMedium>(index: &mut M::Index) -> Result<u32, Fault> {
+    Ok(match M::advance_commit(index)? {
         Advance::Nothing => 0,
         Advance::Written => 1,
         Advance::Opened => 2,
@@ -28,7 +25,7 @@ fn part(index: &mut Index<Store<MemDevice>>) -> Result<u32, Fault> {
 }
 
 // How many entries a scan of all gives. A thousand are too many.
-fn count<S: PageStore>(index: &mut Index<S>) -> Result<u32, Fault> {
+fn count<I: PlainIndex>(index: &mut I) -> Result<u32, Fault> {
     let token = begin_scan(index, ALL)?;
     for count in 0..1_000u32 {
         if next(index, token)?.is_none() {
@@ -40,14 +37,14 @@ fn count<S: PageStore>(index: &mut Index<S>) -> Result<u32, Fault> {
 }
 
 // How many entries the index on a device has.
-fn count_on(alloc: Global, device: MemDevice) -> Result<u32, Fault> {
-    let mut index = open_index(alloc, device, 16)?;
+fn count_on<M: MemoryMedium>(alloc: Global, device: MemDevice) -> Result<u32, Fault> {
+    let mut index = M::index(alloc, device, 16)?;
     count(&mut index)
 }
 
 // How many entries an index has on what such a crash leaves of a device.
 fn left_by(alloc: Global, device: &MemDevice, image: CrashImage) -> Result<u32, Fault> {
-    count_on(alloc, left(alloc, device, image)?)
+    count_on::<Opened>(alloc, left(alloc, device, image)?)
 }
 
 // The same of two crashes: one that drops what wasn't synced, and one that keeps it.
@@ -68,53 +65,53 @@ enum Deed {
 
 // An entry is inserted, so many parts of a commit are done, with a scan after each, and the commit if that is
 // asked for: whether each part and each scan is right.
-fn goes_in_parts(
-    index: &mut Index<Store<MemDevice>>,
+fn goes_in_parts<M: MemoryMedium>(
+    index: &mut M::Index,
     parts: u32,
     commits: bool,
 ) -> Result<bool, Fault> {
-    let mut is_right = part(index)? == 0;
+    let mut is_right = part::<M>(index)? == 0;
     insert(index, of(1))?;
     for k in 0..parts {
-        let told = part(index)?;
+        let told = part::<M>(index)?;
         is_right = is_right && told == (k + 1).min(2) && count(index)? == 1;
     }
     if commits {
-        is_right = is_right && commit(index)? > 0 && part(index)? == 0;
+        is_right = is_right && commit(index)? > 0 && part::<M>(index)? == 0;
     }
     Ok(is_right)
 }
 
 // Inserts between two parts: whether what was written is written again, and the commit comes after all.
-fn inserts_between(index: &mut Index<Store<MemDevice>>) -> Result<bool, Fault> {
+fn inserts_between<M: MemoryMedium>(index: &mut M::Index) -> Result<bool, Fault> {
     insert(index, of(1))?;
-    let first = part(index)?;
+    let first = part::<M>(index)?;
     insert(index, of(2))?;
-    let second = [part(index)?, part(index)?];
+    let second = [part::<M>(index)?, part::<M>(index)?];
     insert(index, of(3))?;
-    let third = part(index)?;
+    let third = part::<M>(index)?;
     let all = count(index)?;
     commit(index)?;
     Ok((first, second, third, all) == (1, [1, 2], 1, 3))
 }
 
-fn does(index: &mut Index<Store<MemDevice>>, deed: Deed) -> bool {
+fn does<M: MemoryMedium>(index: &mut M::Index, deed: Deed) -> bool {
     match deed {
-        Deed::Parts(parts, commits) => goes_in_parts(index, parts, commits) == Ok(true),
-        Deed::InsertsBetween => inserts_between(index) == Ok(true),
+        Deed::Parts(parts, commits) => goes_in_parts::<M>(index, parts, commits) == Ok(true),
+        Deed::InsertsBetween => inserts_between::<M>(index) == Ok(true),
     }
 }
 
 // Does this with a new index: whether it is right, and the device after it.
-fn new_does(alloc: Global, deed: Deed) -> Result<(bool, MemDevice), Fault> {
-    let mut index = open_index(alloc, made(alloc)?, 16)?;
-    let is_right = does(&mut index, deed);
-    Ok((is_right, index.into_device()))
+fn new_does<M: MemoryMedium>(alloc: Global, deed: Deed) -> Result<(bool, MemDevice), Fault> {
+    let mut index = M::index(alloc, made(alloc)?, 16)?;
+    let is_right = does::<M>(&mut index, deed);
+    Ok((is_right, M::device_under(index)))
 }
 
 // Does this with a new index: how many entries those crashes leave then. None if it isn't right.
 fn left_after(alloc: Global, deed: Deed) -> Result<Option<[u32; 2]>, Fault> {
-    let (is_right, device) = new_does(alloc, deed)?;
+    let (is_right, device) = new_does::<Opened>(alloc, deed)?;
     let both = both_left(alloc, &device)?;
     Ok(is_right.then_some(both))
 }

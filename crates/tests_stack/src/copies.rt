@@ -7,6 +7,7 @@ use page_action::PageStore;
 use std::alloc::Global;
 use std::test::{Fail, *};
 use tests_support::plain::{begin_scan, end_scan, index_over, insert, next};
+use tests_support::plain_index::PlainIndex;
 use tests_support::small::{ALL, entry, limits, pages};
 
 // How many entries an index has at most that is copied.
@@ -23,7 +24,7 @@ fn shuffled(number: u8) -> u8 {
 }
 
 // Puts entries of so many different keys, 60 at most, in shuffled order.
-fn fill<S: PageStore>(index: &mut Index<S>, entries: u8) -> Result<(), Fault> {
+fn fill<I: PlainIndex>(index: &mut I, entries: u8) -> Result<(), Fault> {
     for number in 0..entries {
         insert(index, of(shuffled(number)))?;
     }
@@ -31,10 +32,7 @@ fn fill<S: PageStore>(index: &mut Index<S>, entries: u8) -> Result<(), Fault> {
 }
 
 // Whether two indexes give the same entries, one after the other, 200 at most.
-fn give_alike<S: PageStore, T: PageStore>(
-    a: &mut Index<S>,
-    b: &mut Index<T>,
-) -> Result<bool, Fault> {
+fn give_alike<I: PlainIndex, J: PlainIndex>(a: &mut I, b: &mut J) -> Result<bool, Fault> {
     let (of_a, of_b) = (begin_scan(a, ALL)?, begin_scan(b, ALL)?);
     for _ in 0..200 {
         let (given, other) = (next(a, of_a)?, next(b, of_b)?);

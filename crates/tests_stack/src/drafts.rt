@@ -4,7 +4,6 @@ use crate::file_calls::{
     clear, close, close_file, count, create_index, entry, four_at, has_sevens, is_gone, len_at,
     open, open_index, put_sevens, remove, verified,
 };
-use access_method::Index;
 use device::{FileDevice, Start};
 use index_model::{Fault, Limits};
 use page_action::PageStore;
@@ -15,6 +14,7 @@ use std::process::Abort;
 use std::rt::Files;
 use std::test::{Fail, *};
 use tests_support::plain::{commit, insert};
+use tests_support::plain_index::PlainIndex;
 
 const LIMITS: Limits = Limits {
     items: 4,
@@ -38,7 +38,7 @@ fn create(rt: &impl Files<File = File>, path: &str) -> Result<(), Fault> {
 }
 
 /// Inserts ten entries, with a commit after them. Answers the number of actions.
-fn fill<S: PageStore>(index: &mut Index<S>) -> Result<u64, Fault> {
+fn fill<I: PlainIndex>(index: &mut I) -> Result<u64, Fault> {
     for number in 0..10 {
         insert(index, entry(number))?;
     }
@@ -46,7 +46,7 @@ fn fill<S: PageStore>(index: &mut Index<S>) -> Result<u64, Fault> {
 }
 
 /// Fills an index that is empty. Answers how many entries it had, and the number of actions since then.
-fn fill_empty<S: PageStore>(index: &mut Index<S>) -> Result<(u32, u64), Fault> {
+fn fill_empty<I: PlainIndex>(index: &mut I) -> Result<(u32, u64), Fault> {
     match count(index)? {
         0 => Ok((0, fill(index)?)),
         entries => Ok((entries, 0)),

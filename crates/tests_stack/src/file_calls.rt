@@ -13,7 +13,9 @@ use std::fs::{self, File};
 use std::io;
 use std::rt::Files;
 use std::test::Fail;
-use tests_support::plain::{begin_scan, end_scan, next, open as open_store};
+use tests_support::medium::{Medium, Opened};
+use tests_support::plain::{begin_scan, end_scan, next};
+use tests_support::plain_index::PlainIndex;
 
 /// An index in a file.
 pub type InFile = Index<Store<FileDevice<Unknown>>>;
@@ -199,7 +201,7 @@ pub fn entry(number: u16) -> Entry {
 }
 
 /// How many entries a scan of all gives, 1,000 at most.
-pub fn count<S: PageStore>(index: &mut Index<S>) -> Result<u32, Fault> {
+pub fn count<I: PlainIndex>(index: &mut I) -> Result<u32, Fault> {
     let all = Range {
         from: None,
         below: None,
@@ -225,13 +227,13 @@ pub fn verified(rt: &impl Files<File = File>, alloc: Global, path: &str) -> Opti
 }
 
 /// What the verifier answers of the index on a device.
-fn verify_on<D: Device + Drop>(alloc: Global, device: D) -> Result<Report, CheckFault> {
-    match open_store(alloc, device, 16) {
+fn verify_on<D: Drop, M: Medium<D>>(alloc: Global, device: D) -> Result<Report, CheckFault> {
+    match M::store(alloc, device, 16) {
         Ok(store) => {
             let mut store = store;
             parents(alloc, &mut store)
         }
-        Err(refused) => Err(CheckFault::Refused(refused.fault)),
+        Err((fault, _)) => Err(CheckFault::Refused(fault)),
     }
 }
 
@@ -242,7 +244,7 @@ pub fn verify(
     path: &str,
 ) -> Result<Report, CheckFault> {
     match open(rt, path) {
-        Ok(device) => verify_on(alloc, device),
+        Ok(device) => verify_on::<_, Opened>(alloc, device),
         Err(fault) => Err(CheckFault::Refused(fault)),
     }
 }

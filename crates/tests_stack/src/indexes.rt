@@ -4,7 +4,6 @@ use crate::file_calls::{
     InFile, clear, close_file, count, create, entry, len_at, let_go, make, open_index,
     opened_index, remove, verified, verify,
 };
-use access_method::Index;
 use amcheck::CheckFault;
 use index_model::{Fault, Limits};
 use page_action::PageStore;
@@ -14,6 +13,7 @@ use std::process::Abort;
 use std::rt::Files;
 use std::test::{Fail, *};
 use tests_support::plain::{checkpoint_of as checkpoint, commit, insert};
+use tests_support::plain_index::PlainIndex;
 
 const LIMITS: Limits = Limits {
     items: 4,
@@ -41,7 +41,7 @@ fn made(rt: &impl Files<File = File>, alloc: Global, path: &str) -> Result<InFil
 }
 
 /// Inserts the entries from there to there.
-fn fill<S: PageStore>(index: &mut Index<S>, from: u16, to: u16) -> Result<(), Fault> {
+fn fill<I: PlainIndex>(index: &mut I, from: u16, to: u16) -> Result<(), Fault> {
     for number in from..to {
         insert(index, entry(number))?;
     }
@@ -54,7 +54,7 @@ fn set_len(rt: &impl Files<File = File>, path: &str, len: u64) -> Result<(), Fai
 }
 
 /// Inserts so many entries, with a checkpoint after them. Answers their number.
-fn fill_home<S: PageStore>(index: &mut Index<S>, entries: u16) -> Result<u32, Fault> {
+fn fill_home<I: PlainIndex>(index: &mut I, entries: u16) -> Result<u32, Fault> {
     fill(index, 0, entries)?;
     checkpoint(index)?;
     Ok(u32::from(entries))
@@ -71,10 +71,10 @@ enum Work {
 }
 
 /// Does this with an open index; answers a number of entries.
-fn does<S: PageStore, R: Abort + Files<File = File>>(
+fn does<I: PlainIndex, R: Abort + Files<File = File>>(
     rt: &R,
     alloc: Global,
-    index: &mut Index<S>,
+    index: &mut I,
     path: &str,
     work: Work,
 ) -> Result<Result<u32, Fault>, Fail> {
@@ -119,9 +119,9 @@ fn lengths(rt: HostRuntime) -> Result<(), Fail> {
 }
 
 /// Fills an index and cuts its pages off: what a scan of all is answered.
-fn counted_in_cut<S: PageStore>(
+fn counted_in_cut<I: PlainIndex>(
     rt: &impl Files<File = File>,
-    index: &mut Index<S>,
+    index: &mut I,
     path: &str,
 ) -> Result<Result<u32, Fault>, Fail> {
     fill_home(index, 100)?;
@@ -147,9 +147,9 @@ fn cut(rt: HostRuntime) -> Result<(), Fail> {
 }
 
 /// Fills an index, removes its file in the midst of that, and answers how many entries there are.
-fn counted_in_removed<S: PageStore>(
+fn counted_in_removed<I: PlainIndex>(
     rt: &impl Files<File = File>,
-    index: &mut Index<S>,
+    index: &mut I,
     path: &str,
 ) -> Result<Result<u32, Fault>, Fail> {
     fill(index, 0, 50)?;
@@ -172,10 +172,10 @@ fn removed(rt: HostRuntime) -> Result<(), Fail> {
 
 /// Fills an index, a commit after the first ten of its 20 entries. It is neither opened again nor verified.
 /// Answers 20.
-fn is_held<S: PageStore, R: Abort + Files<File = File>>(
+fn is_held<I: PlainIndex, R: Abort + Files<File = File>>(
     rt: &R,
     alloc: Global,
-    index: &mut Index<S>,
+    index: &mut I,
     path: &str,
 ) -> Result<Result<u32, Fault>, Fail> {
     fill(index, 0, 10)?;

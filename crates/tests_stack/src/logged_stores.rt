@@ -2,28 +2,26 @@
 
 use device::{CrashImage, Device, MemDevice};
 use index_model::{Fault, Format, Limits, Session};
-use page_action::PageStore;
 use page_codec::{decode, is_unused};
-use page_store::Store;
 use redo_log::{Log, Replayed};
 use std::alloc::Global;
 use std::test::{Fail, *};
-use tests_support::plain::{
-    act, checkpoint, device_of, flush, force, left, left_of, open, page, read,
-};
+use tests_support::medium::{MemoryMedium, Opened};
+use tests_support::plain::{act, checkpoint, flush, force, left, page, read};
+use tests_support::plain_store::PlainStore;
 use tests_support::small::{LEN, LIMITS, limits, made_with, marked};
 
 /// A store of 16 frames over the index on a device.
-fn opened(alloc: Global, device: MemDevice) -> Result<Store<MemDevice>, Fault> {
-    match open(alloc, device, 16) {
+fn opened<M: MemoryMedium>(alloc: Global, device: MemDevice) -> Result<M::Store, Fault> {
+    match M::store(alloc, device, 16) {
         Ok(store) => Ok(store),
-        Err(refused) => Err(refused.fault),
+        Err((fault, _)) => Err(fault),
     }
 }
 
 /// A store over a new index of these limits: a metapage and an empty leaf.
-fn new_store(alloc: Global, limits: &Limits) -> Result<Store<MemDevice>, Fault> {
-    opened(alloc, made_with(alloc, limits)?)
+fn new_store<M: MemoryMedium>(alloc: Global, limits: &Limits) -> Result<M::Store, Fault> {
+    opened::<M>(alloc, made_with(alloc, limits)?)
 }
 
 /// The cycle of these bytes' page, 0 if zeros stand, 99 if they are no page's.
@@ -67,7 +65,7 @@ fn logged(alloc: Global, device: &mut MemDevice) -> Result<u32, Fault> {
     Ok(count)
 }
 
-fn cycle_of<S: PageStore>(store: &mut S, block: u32) -> Result<u32, Fault> {
+fn cycle_of<S: PlainStore>(store: &mut S, block: u32) -> Result<u32, Fault> {
     Ok(page(store, block)?.cycle)
 }
 
@@ -116,27 +114,27 @@ enum CallOfAll {
     HaveCrowd,
 }
 
-fn begin<S: PageStore>(store: &mut S, session: u32) -> Result<u64, Fault> {
+fn begin<S: PlainStore>(store: &mut S, session: u32) -> Result<u64, Fault> {
     store.begin(Session::new(session)?)
 }
 
-fn pin<S: PageStore>(store: &mut S, session: u32, block: u32) -> Result<u64, Fault> {
+fn pin<S: PlainStore>(store: &mut S, session: u32, block: u32) -> Result<u64, Fault> {
     store.pin(Session::new(session)?, block);
     Ok(0)
 }
 
-fn unpin<S: PageStore>(store: &mut S, session: u32, block: u32) -> Result<u64, Fault> {
+fn unpin<S: PlainStore>(store: &mut S, session: u32, block: u32) -> Result<u64, Fault> {
     store.unpin(Session::new(session)?, block);
     Ok(0)
 }
 
-fn fail_at(store: &mut Store<MemDevice>, n: u64) -> Result<u64, Fault> {
-    store.fail_at(n);
+fn fail_at<M: MemoryMedium>(store: &mut M::Store, n: u64) -> Result<u64, Fault> {
+    M::fail_at(store, n);
     Ok(0)
 }
 
 /// What the call answers; 0 if it answers nothing, and for one of the device.
-fn answer_of<S: PageStore>(store: &mut S, call: Call) -> Result<u64, Fault> {
+fn answer_of<S: PlainStore>(store: &mut S, call: Call) -> Result<u64, Fault> {
     match call {
         Call::Act(block, cycle) => act(store, &[marked(block, cycle)]),
         Call::Force => force(store),
@@ -156,9 +154,9 @@ fn answer_of<S: PageStore>(store: &mut S, call: Call) -> Result<u64, Fault> {
     }
 }
 
-fn answer(store: &mut Store<MemDevice>, call: Call) -> Result<u64, Fault> {
+fn answer<M: MemoryMedium>(store: &mut M::Store, call: Call) -> Result<u64, Fault> {
     match call {
-        Call::FailAt(n) => fail_at(store, n),
+        Call::FailAt(n) => fail_at::<M>(store, n),
         call => answer_of(store, call),
     }
 }
@@ -167,11 +165,11 @@ fn answer(store: &mut Store<MemDevice>, call: Call) -> Result<u64, Fault> {
 type Row = (Call, Result<u64, Fault>);
 
 /// The first of these calls, counted from 1, that isn't answered so; 0 if all are.
-fn wrong(store: &mut Store<MemDevice>, rows: &[Row]) -> usize {
+fn wrong<M: MemoryMedium>(store: &mut M::Store, rows: &[Row]) -> usize {
     let mut place = 0usize;
     for (call, wanted) in rows {
         place = place.saturating_add(1);
-        if answer(store, *call) != *wanted {
+        if answer::<M>(store, *call) != *wanted {
             return place;
         }
     }
@@ -179,21 +177,37 @@ fn wrong(store: &mut Store<MemDevice>, rows: &[Row]) -> usize {
 }
 
 /// The same of three lists of calls of a new store, one after the other.
-fn wrong_of_new(alloc: Global, limits: &Limits, lists: [&[Row]; 3]) -> Result<[usize; 3], Fault> {
-    let mut store = new_store(alloc, limits)?;
+fn wrong_in_new<M: MemoryMedium>(
+    alloc: Global,
+    limits: &Limits,
+    lists: [&[Row]; 3],
+) -> Result<[usize; 3], Fault> {
+    let mut store = new_store::<M>(alloc, limits)?;
     let [first, second, third] = lists;
     Ok([
-        wrong(&mut store, first),
-        wrong(&mut store, second),
-        wrong(&mut store, third),
+        wrong::<M>(&mut store, first),
+        wrong::<M>(&mut store, second),
+        wrong::<M>(&mut store, third),
     ])
 }
 
+fn wrong_of_new(alloc: Global, limits: &Limits, lists: [&[Row]; 3]) -> Result<[usize; 3], Fault> {
+    wrong_in_new::<Opened>(alloc, limits, lists)
+}
+
 /// The same of one list, and the device of the store after it.
+fn device_after_in<M: MemoryMedium>(
+    alloc: Global,
+    limits: &Limits,
+    rows: &[Row],
+) -> Result<(usize, MemDevice), Fault> {
+    let mut store = new_store::<M>(alloc, limits)?;
+    let wrong = wrong::<M>(&mut store, rows);
+    Ok((wrong, M::device_of(store)))
+}
+
 fn device_after(alloc: Global, limits: &Limits, rows: &[Row]) -> Result<(usize, MemDevice), Fault> {
-    let mut store = new_store(alloc, limits)?;
-    let wrong = wrong(&mut store, rows);
-    Ok((wrong, device_of(store)))
+    device_after_in::<Opened>(alloc, limits, rows)
 }
 
 /// Whether the pages of these blocks have these cycles.
@@ -334,7 +348,7 @@ fn flushes_go_on_after_a_failed_checkpoint(rt: HostRuntime) -> Result<(), Fail> 
 
 /// Fifteen acts, each forced, fill the log: whether each has what is left of it. An act is refused then until
 /// a checkpoint is made.
-fn fills(store: &mut Store<MemDevice>) -> bool {
+fn fills<M: MemoryMedium>(store: &mut M::Store) -> bool {
     for n in 0..15u32 {
         let number = u64::from(n) + 1;
         let rows = [
@@ -342,7 +356,7 @@ fn fills(store: &mut Store<MemDevice>) -> bool {
             (Call::Act(1, n), Ok(number)),
             (Call::Force, Ok(number)),
         ];
-        if wrong(store, &rows) != 0 {
+        if wrong::<M>(store, &rows) != 0 {
             return false;
         }
     }
@@ -351,47 +365,49 @@ fn fills(store: &mut Store<MemDevice>) -> bool {
         (Call::Checkpoint, Ok(15)),
         (Call::Act(1, 15), Ok(16)),
     ];
-    wrong(store, &rows) == 0
+    wrong::<M>(store, &rows) == 0
 }
 
-fn new_fills(alloc: Global) -> Result<bool, Fault> {
-    let mut store = new_store(alloc, &LIMITS)?;
-    Ok(fills(&mut store))
+fn new_fills<M: MemoryMedium>(alloc: Global) -> Result<bool, Fault> {
+    let mut store = new_store::<M>(alloc, &LIMITS)?;
+    Ok(fills::<M>(&mut store))
 }
 
 #[test]
 fn a_full_log_is_refused(rt: HostRuntime) -> Result<(), Fail> {
-    assert!(rt; new_fills(rt.alloc()) == Ok(true));
+    assert!(rt; new_fills::<Opened>(rt.alloc()) == Ok(true));
     Ok(())
 }
 
 /// Acts on block 1 forty times, and forces: whether each is answered right, with the room that is left.
-fn acts_on_one_block(store: &mut Store<MemDevice>) -> bool {
+fn acts_on_one_block<M: MemoryMedium>(store: &mut M::Store) -> bool {
     for n in 1..41u32 {
         let rows = [(Call::Act(1, n), Ok(u64::from(n))), (Call::Room, Ok(14))];
-        if wrong(store, &rows) != 0 {
+        if wrong::<M>(store, &rows) != 0 {
             return false;
         }
     }
-    wrong(store, &[(Call::Force, Ok(40))]) == 0
+    wrong::<M>(store, &[(Call::Force, Ok(40))]) == 0
 }
 
 /// How many blocks have an image in the log that a crash leaves of a store.
-fn logged_of(alloc: Global, store: &Store<MemDevice>) -> Result<u32, Fault> {
-    let mut found = left_of(alloc, store, CrashImage::Drop)?;
+fn logged_of<M: MemoryMedium>(alloc: Global, store: &M::Store) -> Result<u32, Fault> {
+    let mut found = M::left_of(alloc, store, CrashImage::Drop)?;
     logged(alloc, &mut found)
 }
 
 /// Whether a new store does that right, and so many blocks then.
-fn new_acts_on_one_block(alloc: Global) -> Result<(bool, Result<u32, Fault>), Fault> {
-    let mut store = new_store(alloc, &LIMITS)?;
-    let is_right = acts_on_one_block(&mut store);
-    Ok((is_right, logged_of(alloc, &store)))
+fn new_acts_on_one_block<M: MemoryMedium>(
+    alloc: Global,
+) -> Result<(bool, Result<u32, Fault>), Fault> {
+    let mut store = new_store::<M>(alloc, &LIMITS)?;
+    let is_right = acts_on_one_block::<M>(&mut store);
+    Ok((is_right, logged_of::<M>(alloc, &store)))
 }
 
 #[test]
 fn acts_on_one_block_wait_as_one_image(rt: HostRuntime) -> Result<(), Fail> {
-    assert!(rt; new_acts_on_one_block(rt.alloc()) == Ok((true, Ok(1))));
+    assert!(rt; new_acts_on_one_block::<Opened>(rt.alloc()) == Ok((true, Ok(1))));
     Ok(())
 }
 
@@ -399,7 +415,7 @@ fn acts_on_one_block_wait_as_one_image(rt: HostRuntime) -> Result<(), Fail> {
 const MANY: u32 = 64;
 
 /// Gives each of the blocks 1 to 39 a page of this cycle more than its number.
-fn act_on_all<S: PageStore>(store: &mut S, more: u32) -> Result<(), Fault> {
+fn act_on_all<S: PlainStore>(store: &mut S, more: u32) -> Result<(), Fault> {
     for block in 1..40u32 {
         if store.room() < 2 {
             checkpoint(store)?;
@@ -410,7 +426,7 @@ fn act_on_all<S: PageStore>(store: &mut S, more: u32) -> Result<(), Fault> {
 }
 
 /// Whether the pages of these blocks have these cycles, read from the last to the first.
-fn has_all<S: PageStore>(store: &mut S, more: u32) -> bool {
+fn has_all<S: PlainStore>(store: &mut S, more: u32) -> bool {
     for n in 0..39u32 {
         let block = 39u32.saturating_sub(n);
         if cycle_of(store, block) != Ok(block.saturating_add(more)) {
@@ -421,7 +437,7 @@ fn has_all<S: PageStore>(store: &mut S, more: u32) -> bool {
 }
 
 /// Acts on all pages twice, and forces: whether each is as it was acted last.
-fn acts_twice<S: PageStore>(store: &mut S) -> Result<bool, Fault> {
+fn acts_twice<S: PlainStore>(store: &mut S) -> Result<bool, Fault> {
     act_on_all(store, 0)?;
     let first = has_all(store, 0);
     act_on_all(store, 100)?;
@@ -430,14 +446,14 @@ fn acts_twice<S: PageStore>(store: &mut S) -> Result<bool, Fault> {
 }
 
 /// Acts on all pages, and writes them.
-fn writes_all<S: PageStore>(store: &mut S) -> Result<u64, Fault> {
+fn writes_all<S: PlainStore>(store: &mut S) -> Result<u64, Fault> {
     act_on_all(store, 0)?;
     checkpoint(store)?;
     Ok(0)
 }
 
 /// Pins two pages by each of 8 sessions: whether they are those that they were.
-fn pins<S: PageStore>(store: &mut S) -> bool {
+fn pins<S: PlainStore>(store: &mut S) -> bool {
     for n in 0..8u32 {
         if pin(store, n, n + 1) != Ok(0) || pin(store, n, n + 9) != Ok(0) {
             return false;
@@ -452,7 +468,7 @@ fn pins<S: PageStore>(store: &mut S) -> bool {
 }
 
 /// Pins block 39, and changes the blocks 1 to 15.
-fn crowd<S: PageStore>(store: &mut S) -> Result<u64, Fault> {
+fn crowd<S: PlainStore>(store: &mut S) -> Result<u64, Fault> {
     cycle_of(store, 39)?;
     pin(store, 0, 39)?;
     for block in 1..16u32 {
@@ -462,7 +478,7 @@ fn crowd<S: PageStore>(store: &mut S) -> Result<u64, Fault> {
 }
 
 /// Whether the pages are as they were acted last after that.
-fn has_crowd<S: PageStore>(store: &mut S) -> bool {
+fn has_crowd<S: PlainStore>(store: &mut S) -> bool {
     for block in 1..40u32 {
         let cycle = if block < 16 { block + 100 } else { block };
         if cycle_of(store, block) != Ok(cycle) {
@@ -473,7 +489,7 @@ fn has_crowd<S: PageStore>(store: &mut S) -> bool {
 }
 
 /// What such a call answers.
-fn answer_of_all<S: PageStore>(store: &mut S, call: CallOfAll) -> Result<u64, Fault> {
+fn answer_of_all<S: PlainStore>(store: &mut S, call: CallOfAll) -> Result<u64, Fault> {
     match call {
         CallOfAll::Write => writes_all(store),
         CallOfAll::ActTwice => Ok(u64::from(acts_twice(store)?)),
@@ -485,15 +501,19 @@ fn answer_of_all<S: PageStore>(store: &mut S, call: CallOfAll) -> Result<u64, Fa
 }
 
 /// Whether what is opened after a crash has the pages of the second time.
-fn is_left(alloc: Global, device: &MemDevice, image: CrashImage) -> Result<bool, Fault> {
-    let mut store = opened(alloc, left(alloc, device, image)?)?;
+fn is_left<M: MemoryMedium>(
+    alloc: Global,
+    device: &MemDevice,
+    image: CrashImage,
+) -> Result<bool, Fault> {
+    let mut store = opened::<M>(alloc, left(alloc, device, image)?)?;
     Ok(has_all(&mut store, 100))
 }
 
 /// Whether each crash leaves the pages of the second time.
 fn are_left(alloc: Global, device: &MemDevice) -> bool {
     for image in [CrashImage::Drop, CrashImage::Keep, CrashImage::Tear] {
-        if is_left(alloc, device, image) != Ok(true) {
+        if is_left::<Opened>(alloc, device, image) != Ok(true) {
             return false;
         }
     }

@@ -14,6 +14,7 @@ use tests_support::plain::{
     self, device_of, finish, give, left_by, one, open_world, page_in, put, put_set, run, stop_at,
     take_step,
 };
+use tests_support::plain_world::{DeviceWorld, PlainWorld};
 use tests_support::small::{ALL, LEN, LIMITS, entry, keyed, made, pages};
 use world::World;
 
@@ -69,11 +70,7 @@ fn wrong_answer(answers: &[Answer], rows: &[(Event, &str, u64)]) -> usize {
 }
 
 // The first of these events, counted from 1, that isn't answered so; 0 if all are, 99 if they can't be run.
-fn wrong<S: PageStore>(
-    alloc: Global,
-    world: &mut World<S, Blocks>,
-    rows: &[(Event, &str, u64)],
-) -> usize {
+fn wrong<W: PlainWorld>(alloc: Global, world: &mut W, rows: &[(Event, &str, u64)]) -> usize {
     let Ok(events) = events_of(alloc, rows) else {
         return 99;
     };
@@ -160,7 +157,8 @@ fn wrong_over(alloc: Global, store: MapStore) -> Result<usize, Fault> {
         (Event::Step(1), "going", 0),
         (Event::Step(1), "added", 1),
     ];
-    let mut world = plain::world(alloc, store, 2, Vec::new(alloc))?;
+    let sets: Vec<Blocks> = Vec::new(alloc);
+    let mut world = plain::world(alloc, store, 2, sets)?;
     Ok(wrong(alloc, &mut world, &rows))
 }
 
@@ -173,12 +171,12 @@ fn store_is_handed_out_without_latches(rt: HostRuntime) -> Result<(), Fail> {
     Ok(())
 }
 
-fn abandon<S: PageStore>(world: &mut World<S, Blocks>, session: u32) -> Answer {
+fn abandon<W: PlainWorld>(world: &mut W, session: u32) -> Answer {
     world.abandon(session)
 }
 
 // Session 63 begins a scan, which is abandoned: whether it runs one before, in between, and after.
-fn begins_and_abandons<S: PageStore>(world: &mut World<S, Blocks>) -> [bool; 5] {
+fn begins_and_abandons<W: PlainWorld>(world: &mut W) -> [bool; 5] {
     [
         world.is_running(63),
         matches!(one(world, Event::Scan(63, ALL)), Answer::Begun),
@@ -188,12 +186,12 @@ fn begins_and_abandons<S: PageStore>(world: &mut World<S, Blocks>) -> [bool; 5] 
     ]
 }
 
-fn block_in<S: PageStore>(world: &mut World<S, Blocks>, block: u32) -> Result<u32, Fault> {
+fn block_in<W: PlainWorld>(world: &mut W, block: u32) -> Result<u32, Fault> {
     Ok(page_in(world, block)?.block)
 }
 
 // Whether what is read of a world of 64 sessions is right, before a page of it is changed.
-fn reads<S: PageStore>(world: &mut World<S, Blocks>) -> [bool; 6] {
+fn reads<W: PlainWorld>(world: &mut W) -> [bool; 6] {
     [
         begins_and_abandons(world) == [false, true, true, true, false],
         world.sessions() == 64,
@@ -251,7 +249,7 @@ fn law<D: Device>(world: &World<Store<D>, Blocks>) {
 }
 
 // How many entries the root has, which is a leaf; 99 if it is none.
-fn entries_in<S: PageStore>(world: &mut World<S, Blocks>) -> Result<usize, Fault> {
+fn entries_in<W: PlainWorld>(world: &mut W) -> Result<usize, Fault> {
     match page_in(world, 1)?.items {
         Items::Entries(entries) => Ok(entries.len()),
         _ => Ok(99),
@@ -259,7 +257,7 @@ fn entries_in<S: PageStore>(world: &mut World<S, Blocks>) -> Result<usize, Fault
 }
 
 // An action that is forced, and one that isn't: whether the events are answered right.
-fn acts_twice<S: PageStore>(alloc: Global, world: &mut World<S, Blocks>) -> bool {
+fn acts_twice<W: PlainWorld>(alloc: Global, world: &mut W) -> bool {
     let rows = [
         (Event::Insert(0, entry(0x61, 1)), "begun", 0),
         (Event::Step(0), "going", 0),
@@ -280,7 +278,7 @@ fn len_of(world: World<Store<MemDevice>, Blocks>) -> u64 {
 }
 
 // Begins a call of session 0 and makes its steps, 16 at most: the last answer.
-fn called<S: PageStore>(world: &mut World<S, Blocks>, begin: Event) -> Answer {
+fn called<W: PlainWorld>(world: &mut W, begin: Event) -> Answer {
     let mut answer = one(world, begin);
     for _ in 0..16 {
         if !matches!(answer, Answer::Begun | Answer::Going) {
@@ -293,7 +291,7 @@ fn called<S: PageStore>(world: &mut World<S, Blocks>, begin: Event) -> Answer {
 
 // Scans all by session 1: how many entries, each of the key and the place of its number; or None for a wrong
 // answer.
-fn counted<S: PageStore>(world: &mut World<S, Blocks>) -> Option<u8> {
+fn counted<W: PlainWorld>(world: &mut W) -> Option<u8> {
     let mut given = 0u8;
     let mut answer = one(world, Event::Scan(1, ALL));
     for _ in 0..32 {
@@ -317,7 +315,7 @@ fn counted<S: PageStore>(world: &mut World<S, Blocks>) -> Option<u8> {
 }
 
 // Whether session 0 adds the entry of this key, and leaves no split unfinished.
-fn adds<S: PageStore>(world: &mut World<S, Blocks>, key: u8) -> bool {
+fn adds<W: PlainWorld>(world: &mut W, key: u8) -> bool {
     matches!(
         called(world, Event::Insert(0, entry(key, u16::from(key)))),
         Answer::Added {
@@ -328,7 +326,7 @@ fn adds<S: PageStore>(world: &mut World<S, Blocks>, key: u8) -> bool {
 }
 
 // Whether session 0 adds the entries of the keys from 1 to below this one.
-fn adds_to<S: PageStore>(world: &mut World<S, Blocks>, end: u8) -> bool {
+fn adds_to<W: PlainWorld>(world: &mut W, end: u8) -> bool {
     for key in 1..end {
         if !adds(world, key) {
             return false;
@@ -338,7 +336,7 @@ fn adds_to<S: PageStore>(world: &mut World<S, Blocks>, end: u8) -> bool {
 }
 
 // A leaf has room for 4 entries. The fifth splits it, and the split is finished by a new root.
-fn splits<S: PageStore>(world: &mut World<S, Blocks>) -> [bool; 4] {
+fn splits<W: PlainWorld>(world: &mut W) -> [bool; 4] {
     [
         adds_to(world, 6),
         world.used() == 4,
@@ -348,7 +346,7 @@ fn splits<S: PageStore>(world: &mut World<S, Blocks>) -> [bool; 4] {
 }
 
 // Whether one entry more is added to the two leaves, and all are there before and after it.
-fn goes_on<S: PageStore>(alloc: Global, again: &mut World<S, Blocks>) -> [bool; 4] {
+fn goes_on<W: PlainWorld>(alloc: Global, again: &mut W) -> [bool; 4] {
     // The root is on level 1: the metapage, the root, the leaf, the entry.
     let rows = [
         (Event::Insert(0, entry(6, 6)), "begun", 0),
@@ -367,7 +365,7 @@ fn goes_on<S: PageStore>(alloc: Global, again: &mut World<S, Blocks>) -> [bool; 
 
 // Whether the index that is opened after a crash has what it should: five entries and then a sixth, after a
 // split, or one.
-fn has_all<S: PageStore>(alloc: Global, again: &mut World<S, Blocks>, is_split: bool) -> bool {
+fn has_all<W: PlainWorld>(alloc: Global, again: &mut W, is_split: bool) -> bool {
     if is_split {
         goes_on(alloc, again) == [true; 4]
     } else {
@@ -376,9 +374,9 @@ fn has_all<S: PageStore>(alloc: Global, again: &mut World<S, Blocks>, is_split: 
 }
 
 // The same of what a crash leaves of an index.
-fn leaves_all(
+fn leaves_all<W: DeviceWorld>(
     alloc: Global,
-    world: &World<Store<MemDevice>, Blocks>,
+    world: &W,
     image: CrashImage,
     is_split: bool,
 ) -> Result<bool, Fault> {
@@ -387,7 +385,7 @@ fn leaves_all(
 }
 
 // Whether each crash leaves one entry.
-fn leaves_one(alloc: Global, world: &World<Store<MemDevice>, Blocks>) -> bool {
+fn leaves_one<W: DeviceWorld>(alloc: Global, world: &W) -> bool {
     for image in [CrashImage::Drop, CrashImage::Keep, CrashImage::Tear] {
         if leaves_all(alloc, world, image, false) != Ok(true) {
             return false;
@@ -397,7 +395,7 @@ fn leaves_one(alloc: Global, world: &World<Store<MemDevice>, Blocks>) -> bool {
 }
 
 // The first entry that a scan of session 1 gives, which has one ready, and whether it gives none after it.
-fn scanned<S: PageStore>(world: &mut World<S, Blocks>) -> Result<(Option<Entry>, bool), Fault> {
+fn scanned<W: PlainWorld>(world: &mut W) -> Result<(Option<Entry>, bool), Fault> {
     if !matches!(one(world, Event::Scan(1, ALL)), Answer::Begun)
         || !matches!(finish(world, 1, 0)?, Answer::Ready(1))
     {
@@ -408,7 +406,7 @@ fn scanned<S: PageStore>(world: &mut World<S, Blocks>) -> Result<(Option<Entry>,
 }
 
 // Whether the first entry is put by the first action.
-fn is_put<S: PageStore>(world: &mut World<S, Blocks>) -> bool {
+fn is_put<W: PlainWorld>(world: &mut W) -> bool {
     matches!(
         put(world, 0, entry(0x61, 1), 5),
         Ok(Answer::Added {
@@ -419,7 +417,7 @@ fn is_put<S: PageStore>(world: &mut World<S, Blocks>) -> bool {
 }
 
 // An insert and a scan to their ends, and a step of none.
-fn runs_to_ends<S: PageStore>(world: &mut World<S, Blocks>) -> [bool; 3] {
+fn runs_to_ends<W: PlainWorld>(world: &mut W) -> [bool; 3] {
     [
         is_put(world),
         scanned(world) == Ok((Some(entry(0x61, 1)), true)),
@@ -428,8 +426,8 @@ fn runs_to_ends<S: PageStore>(world: &mut World<S, Blocks>) -> [bool; 3] {
 }
 
 // Whether a step of the session's call, with the checkpoint that may go before it, answers this.
-fn takes<S: PageStore>(
-    world: &mut World<S, Blocks>,
+fn takes<W: PlainWorld>(
+    world: &mut W,
     session: u32,
     least_room: u32,
     word: &str,
@@ -440,7 +438,7 @@ fn takes<S: PageStore>(
 }
 
 // Two inserts into one leaf, a step after the other.
-fn takes_turns<S: PageStore>(world: &mut World<S, Blocks>) -> bool {
+fn takes_turns<W: PlainWorld>(world: &mut W) -> bool {
     // The metapage, the latch on the leaf, the entry. Who is blocked tries the latch again.
     let turns = [
         (0, "going", 0),
@@ -461,7 +459,7 @@ fn takes_turns<S: PageStore>(world: &mut World<S, Blocks>) -> bool {
 }
 
 // Both are begun.
-fn begins_two<S: PageStore>(alloc: Global, world: &mut World<S, Blocks>) -> bool {
+fn begins_two<W: PlainWorld>(alloc: Global, world: &mut W) -> bool {
     let rows = [
         (Event::Insert(0, entry(0x61, 1)), "begun", 0),
         (Event::Insert(1, entry(0x62, 2)), "begun", 0),
@@ -470,7 +468,7 @@ fn begins_two<S: PageStore>(alloc: Global, world: &mut World<S, Blocks>) -> bool
 }
 
 // No log has so much room, and the first action isn't durable: the call is given up.
-fn is_given_up<S: PageStore>(world: &mut World<S, Blocks>) -> [bool; 3] {
+fn is_given_up<W: PlainWorld>(world: &mut W) -> [bool; 3] {
     [
         takes(world, 0, u32::MAX, "refused", 2),
         !world.is_running(0),
@@ -479,12 +477,12 @@ fn is_given_up<S: PageStore>(world: &mut World<S, Blocks>) -> [bool; 3] {
 }
 
 // The first entry is put, and the insert of a second begun.
-fn has_begun<S: PageStore>(world: &mut World<S, Blocks>) -> bool {
+fn has_begun<W: PlainWorld>(world: &mut W) -> bool {
     is_put(world) && matches!(one(world, Event::Insert(0, entry(0x62, 2))), Answer::Begun)
 }
 
 // The device stops then.
-fn stops(world: &mut World<Store<MemDevice>, Blocks>) -> bool {
+fn stops<W: DeviceWorld>(world: &mut W) -> bool {
     let has_begun = has_begun(world);
     stop_at(world, 1);
     is_given_up(world) == [true; 3] && has_begun
@@ -501,7 +499,7 @@ enum Deed {
 }
 
 // Whether it is done right.
-fn does(alloc: Global, world: &mut World<Store<MemDevice>, Blocks>, deed: Deed) -> bool {
+fn does<W: DeviceWorld>(alloc: Global, world: &mut W, deed: Deed) -> bool {
     match deed {
         Deed::ActsTwice => acts_twice(alloc, world) && leaves_one(alloc, world),
         Deed::Splits => {
@@ -561,7 +559,7 @@ fn block(number: u32) -> Blocks {
 }
 
 // What a bulk delete of the first set answers, run to its end.
-fn removed<S: PageStore>(world: &mut World<S, Blocks>) -> Result<u64, Fault> {
+fn removed<W: PlainWorld>(world: &mut W) -> Result<u64, Fault> {
     if let Answer::Refused(fault) = one(world, Event::Bulk(0, 0)) {
         return Err(fault);
     }

@@ -9,7 +9,7 @@ use std::alloc::Global;
 use std::io::Eprint;
 use std::process::Abort;
 use std::test::{Fail, *};
-use tests_support::plain::open;
+use tests_support::medium::{Medium, Opened};
 
 /// Runs five parts of the table for the index of three levels, whose pages are of 17 blocks, and one after
 /// them.
@@ -36,14 +36,18 @@ fn of_five_entries<R: Abort + Eprint>(rt: &R, alloc: Global, from: u64) -> Resul
 }
 
 /// What the verifier finds in an index that isn't altered.
-fn report_of(alloc: Global, base: MemDevice) -> Option<Report> {
-    match open(alloc, base, FRAMES) {
+fn report_in<M: Medium<MemDevice>>(alloc: Global, base: MemDevice) -> Option<Report> {
+    match M::store(alloc, base, FRAMES) {
         Ok(store) => {
             let mut store = store;
             parents(alloc, &mut store).ok()
         }
         Err(_) => None,
     }
+}
+
+fn report_of(alloc: Global, base: MemDevice) -> Option<Report> {
+    report_in::<Opened>(alloc, base)
 }
 
 #[test]

@@ -3,19 +3,20 @@
 use access_method::{Index, Inserted, ScanToken};
 use device::{Device, MemDevice};
 use index_model::{Entry, Fault, Key, Range, VacuumStats};
-use page_action::PageStore;
 use page_store::Store;
 use std::alloc::Global;
 use std::test::{Fail, *};
 use tests_support::dead::{Blocks, EACH_ROW};
+use tests_support::medium::{Medium, Opened};
 use tests_support::plain::{
     begin_scan, bulk_delete, checkpoint_of, clean_up, commit, end_scan, index_over, insert, next,
     open_index, rescan,
 };
+use tests_support::plain_index::PlainIndex;
 use tests_support::small::{ALL, LEN, LIMITS, entry, keyed, limits, made, made_with, pages};
 
 // The number of the row that a scan gives, or 0 if it has given all; after 100 the number of a refusal.
-fn given<S: PageStore>(index: &mut Index<S>, token: ScanToken) -> u64 {
+fn given<I: PlainIndex>(index: &mut I, token: ScanToken) -> u64 {
     match next(index, token) {
         Ok(Some(entry)) => u64::from(entry.row.offset()),
         Ok(None) => 0,
@@ -34,7 +35,7 @@ fn of(key: u8) -> Entry {
 }
 
 // The action by which the entry was added; 0 if it was refused, or has left a split unfinished.
-fn added<S: PageStore>(index: &mut Index<S>, new: Entry) -> u64 {
+fn added<I: PlainIndex>(index: &mut I, new: Entry) -> u64 {
     match insert(index, new) {
         Ok(
             Inserted {
@@ -47,7 +48,7 @@ fn added<S: PageStore>(index: &mut Index<S>, new: Entry) -> u64 {
 }
 
 // Whether the entries of the keys from 1 to below this one are added.
-fn adds_to<S: PageStore>(index: &mut Index<S>, end: u8) -> bool {
+fn adds_to<I: PlainIndex>(index: &mut I, end: u8) -> bool {
     for key in 1..end {
         if added(index, of(key)) == 0 {
             return false;
@@ -57,7 +58,7 @@ fn adds_to<S: PageStore>(index: &mut Index<S>, end: u8) -> bool {
 }
 
 // Whether the scan of this token gives these, one after the other.
-fn gives<S: PageStore>(index: &mut Index<S>, token: ScanToken, wanted: &[u64]) -> bool {
+fn gives<I: PlainIndex>(index: &mut I, token: ScanToken, wanted: &[u64]) -> bool {
     for number in wanted {
         if given(index, token) != *number {
             return false;
@@ -67,7 +68,7 @@ fn gives<S: PageStore>(index: &mut Index<S>, token: ScanToken, wanted: &[u64]) -
 }
 
 // Whether a scan of all gives these, one after the other.
-fn scans<S: PageStore>(index: &mut Index<S>, wanted: &[u64]) -> Result<bool, Fault> {
+fn scans<I: PlainIndex>(index: &mut I, wanted: &[u64]) -> Result<bool, Fault> {
     let token = begin_scan(index, ALL)?;
     let is_right = gives(index, token, wanted);
     end_scan(index, token)?;
@@ -75,7 +76,7 @@ fn scans<S: PageStore>(index: &mut Index<S>, wanted: &[u64]) -> Result<bool, Fau
 }
 
 // A scan of three entries, which is begun again over the second: whether both give what is right.
-fn scans_again<S: PageStore>(index: &mut Index<S>) -> Result<bool, Fault> {
+fn scans_again<I: PlainIndex>(index: &mut I) -> Result<bool, Fault> {
     let token = begin_scan(index, ALL)?;
     let all = gives(index, token, &[0x61, 0x62, 0x63, 0, 0]);
     let part = Range {
@@ -90,7 +91,7 @@ fn scans_again<S: PageStore>(index: &mut Index<S>) -> Result<bool, Fault> {
 
 // Three inserts and one of an entry that is there, a commit, scans and a checkpoint: whether each answers
 // what is right.
-fn answer_in_turn<S: PageStore>(index: &mut Index<S>) -> [bool; 7] {
+fn answer_in_turn<I: PlainIndex>(index: &mut I) -> [bool; 7] {
     [
         added(index, of(0x63)) == 1,
         added(index, of(0x61)) == 2,
@@ -103,7 +104,7 @@ fn answer_in_turn<S: PageStore>(index: &mut Index<S>) -> [bool; 7] {
 }
 
 // A leaf has room for 4 entries. The fifth splits it, and one action more finishes the split.
-fn splits<S: PageStore>(index: &mut Index<S>) -> [bool; 3] {
+fn splits<I: PlainIndex>(index: &mut I) -> [bool; 3] {
     [
         adds_to(index, 8),
         commit(index) == Ok(8),
@@ -112,7 +113,7 @@ fn splits<S: PageStore>(index: &mut Index<S>) -> [bool; 3] {
 }
 
 // Whether an entry is added and forced.
-fn keeps_one<S: PageStore>(index: &mut Index<S>) -> bool {
+fn keeps_one<I: PlainIndex>(index: &mut I) -> bool {
     added(index, entry(0x61, 1)) == 1 && commit(index) == Ok(1)
 }
 
@@ -122,7 +123,7 @@ fn refusal(alloc: Global, device: MemDevice, frames: u32) -> Option<Fault> {
 }
 
 // The tokens of a scan that has ended, and of one begun after it.
-fn tokens<S: PageStore>(index: &mut Index<S>) -> Result<(ScanToken, ScanToken), Fault> {
+fn tokens<I: PlainIndex>(index: &mut I) -> Result<(ScanToken, ScanToken), Fault> {
     let first = begin_scan(index, ALL)?;
     end_scan(index, first)?;
     let second = begin_scan(index, ALL)?;
@@ -130,7 +131,7 @@ fn tokens<S: PageStore>(index: &mut Index<S>) -> Result<(ScanToken, ScanToken), 
 }
 
 // What the token of a scan that has ended is answered, and then the other.
-fn answers_to_tokens<S: PageStore>(index: &mut Index<S>) -> Result<[bool; 5], Fault> {
+fn answers_to_tokens<I: PlainIndex>(index: &mut I) -> Result<[bool; 5], Fault> {
     let (first, second) = tokens(index)?;
     Ok([
         first != second,
@@ -142,7 +143,7 @@ fn answers_to_tokens<S: PageStore>(index: &mut Index<S>) -> Result<[bool; 5], Fa
 }
 
 // Begins 63 scans, one more, and that one again after the first has ended.
-fn begins_63_scans<S: PageStore>(index: &mut Index<S>) -> Result<[bool; 3], Fault> {
+fn begins_63_scans<I: PlainIndex>(index: &mut I) -> Result<[bool; 3], Fault> {
     let first = begin_scan(index, ALL)?;
     for _scan in 1..63 {
         begin_scan(index, ALL)?;
@@ -156,7 +157,7 @@ fn begins_63_scans<S: PageStore>(index: &mut Index<S>) -> Result<[bool; 3], Faul
 
 // What an index answers whose log has failed: to an insert, to a scan that begins again and to one that
 // begins.
-fn refusals<S: PageStore>(index: &mut Index<S>, token: ScanToken) -> [Option<Fault>; 3] {
+fn refusals<I: PlainIndex>(index: &mut I, token: ScanToken) -> [Option<Fault>; 3] {
     [
         insert(index, of(0x63)).err(),
         rescan(index, token, ALL).err(),
@@ -165,7 +166,7 @@ fn refusals<S: PageStore>(index: &mut Index<S>, token: ScanToken) -> [Option<Fau
 }
 
 // Two inserts with a commit each, of which the second fails, and what is answered then.
-fn stops<S: PageStore>(index: &mut Index<S>) -> Result<[bool; 7], Fault> {
+fn stops<I: PlainIndex>(index: &mut I) -> Result<[bool; 7], Fault> {
     let token = begin_scan(index, ALL)?;
     Ok([
         insert(index, of(0x61)).is_ok(),
@@ -187,7 +188,7 @@ fn failing(alloc: Global) -> Result<MemDevice, Fault> {
 }
 
 // Inserts 9 entries, and deletes them and their pages: how many there were.
-fn deletes_all<S: PageStore>(index: &mut Index<S>) -> Result<(VacuumStats, VacuumStats), Fault> {
+fn deletes_all<I: PlainIndex>(index: &mut I) -> Result<(VacuumStats, VacuumStats), Fault> {
     if !adds_to(index, 10) {
         return Err(Fault::NoMemory);
     }
@@ -198,7 +199,7 @@ fn deletes_all<S: PageStore>(index: &mut Index<S>) -> Result<(VacuumStats, Vacuu
 
 // Deletes all, and inserts it again: whether what the deletes count is right, and what a cleanup counts after
 // it.
-fn uses_again<S: PageStore>(index: &mut Index<S>) -> Result<[bool; 9], Fault> {
+fn uses_again<I: PlainIndex>(index: &mut I) -> Result<[bool; 9], Fault> {
     let (removed, cleaned) = deletes_all(index)?;
     let (is_added, is_scanned) = (
         adds_to(index, 10),
@@ -227,7 +228,7 @@ fn nth(place: u16) -> Entry {
 }
 
 // Whether a scan gives each of these entries, in order, and then none.
-fn gives_all<S: PageStore>(index: &mut Index<S>) -> Result<bool, Fault> {
+fn gives_all<I: PlainIndex>(index: &mut I) -> Result<bool, Fault> {
     let token = begin_scan(index, ALL)?;
     for place in 0..MANY {
         if next(index, token)? != Some(nth(place)) {
@@ -239,10 +240,7 @@ fn gives_all<S: PageStore>(index: &mut Index<S>) -> Result<bool, Fault> {
 
 // Inserts so many entries, not in order, into both: whether they answer the same, and leave no split
 // unfinished.
-fn answer_alike<S: PageStore, T: PageStore>(
-    few: &mut Index<S>,
-    many: &mut Index<T>,
-) -> Result<bool, Fault> {
+fn answer_alike<I: PlainIndex, J: PlainIndex>(few: &mut I, many: &mut J) -> Result<bool, Fault> {
     let mut place = 0u16;
     for _ in 0..MANY {
         // Each place once.
@@ -257,14 +255,17 @@ fn answer_alike<S: PageStore, T: PageStore>(
 
 // An empty index over many pages with the smallest log, of which 1,024 are in memory at once, and one of
 // which this one has few: whether they answer alike.
-fn answers_as_many_do<S: PageStore>(alloc: Global, few: &mut Index<S>) -> Result<bool, Fault> {
-    let mut many = open_index(alloc, made_with(alloc, &limits(4_096))?, 1_024)?;
+fn answers_as_many_do<M: Medium<MemDevice>, I: PlainIndex>(
+    alloc: Global,
+    few: &mut I,
+) -> Result<bool, Fault> {
+    let mut many = M::index(alloc, made_with(alloc, &limits(4_096))?, 1_024)?;
     answer_alike(few, &mut many)
 }
 
 // Deletes the rows of block 1, which odd keys have, while even keys have rows of block 0: whether it counts
 // and leaves what is right.
-fn deletes_odd<S: PageStore>(index: &mut Index<S>) -> Result<[bool; 2], Fault> {
+fn deletes_odd<I: PlainIndex>(index: &mut I) -> Result<[bool; 2], Fault> {
     for key in 1..8u8 {
         insert(index, keyed(&[key], u32::from(key) % 2, u16::from(key)))?;
     }
@@ -291,7 +292,7 @@ enum Deed {
 }
 
 // Whether it is done right.
-fn does<S: PageStore>(alloc: Global, index: &mut Index<S>, deed: Deed) -> bool {
+fn does<M: Medium<MemDevice>, I: PlainIndex>(alloc: Global, index: &mut I, deed: Deed) -> bool {
     match deed {
         Deed::AnswersInTurn => answer_in_turn(index) == [true; 7],
         Deed::Splits => splits(index) == [true; 3],
@@ -301,7 +302,7 @@ fn does<S: PageStore>(alloc: Global, index: &mut Index<S>, deed: Deed) -> bool {
         Deed::Begins63Scans => begins_63_scans(index) == Ok([true; 3]),
         Deed::Stops => stops(index) == Ok([true; 7]),
         Deed::UsesAgain => uses_again(index) == Ok([true; 9]),
-        Deed::AnswersAsManyDo => answers_as_many_do(alloc, index) == Ok(true),
+        Deed::AnswersAsManyDo => answers_as_many_do::<M, I>(alloc, index) == Ok(true),
         Deed::DeletesOdd => deletes_odd(index) == Ok([true; 2]),
     }
 }
@@ -309,7 +310,7 @@ fn does<S: PageStore>(alloc: Global, index: &mut Index<S>, deed: Deed) -> bool {
 // The same of an index that is opened on a device, which comes back.
 fn opened_does(alloc: Global, device: MemDevice, deed: Deed) -> Result<(bool, MemDevice), Fault> {
     let mut index = open_index(alloc, device, 16)?;
-    let is_right = does(alloc, &mut index, deed);
+    let is_right = does::<Opened, _>(alloc, &mut index, deed);
     law(&index);
     Ok((is_right, index.into_device()))
 }
@@ -328,7 +329,7 @@ fn new_does(alloc: Global, deed: Deed) -> Result<(bool, u64), Fault> {
 // The same of an empty index without a device.
 fn in_memory_does(alloc: Global, deed: Deed) -> Result<bool, Fault> {
     let mut index = index_over(alloc, pages(alloc, LIMITS)?)?;
-    Ok(does(alloc, &mut index, deed))
+    Ok(does::<Opened, _>(alloc, &mut index, deed))
 }
 
 #[test]

@@ -2,13 +2,11 @@
 
 use device::{CrashImage, MemDevice};
 use index_model::{Fault, Limits};
-use page_action::PageStore;
-use page_store::Store;
 use std::alloc::Global;
 use std::test::{Fail, *};
-use tests_support::plain::{
-    act, checkpoint, create, device, device_of, force, left, open, page, read, write,
-};
+use tests_support::medium::{MemoryMedium, Opened};
+use tests_support::plain::{act, checkpoint, create, device, force, left, page, read, write};
+use tests_support::plain_store::PlainStore;
 use tests_support::small::{LEN, LIMITS, limits, made, made_with, marked};
 
 /// So many bytes of the device from there on.
@@ -102,26 +100,41 @@ fn refusals(rt: HostRuntime) -> Result<(), Fail> {
 
 const IMAGES: [CrashImage; 3] = [CrashImage::Drop, CrashImage::Keep, CrashImage::Tear];
 
-/// The store that is opened on a device.
-fn opened(alloc: Global, device: MemDevice, frames: u32) -> Result<Store<MemDevice>, Fault> {
-    match open(alloc, device, frames) {
-        Ok(store) => Ok(store),
-        Err(refused) => Err(refused.fault),
+/// The number of the fault that an open is refused with, 0 if it isn't.
+fn refusal_in<M: MemoryMedium>(alloc: Global, device: MemDevice, frames: u32) -> u8 {
+    match M::store(alloc, device, frames) {
+        Ok(_) => 0,
+        Err((fault, _)) => fault.number(),
     }
 }
 
-/// The number of the fault that an open is refused with, 0 if it isn't.
 fn refusal(alloc: Global, device: MemDevice, frames: u32) -> u8 {
-    match opened(alloc, device, frames).err() {
-        Some(fault) => fault.number(),
-        None => 0,
+    refusal_in::<Opened>(alloc, device, frames)
+}
+
+/// The store that is opened on a device.
+fn opened<M: MemoryMedium>(
+    alloc: Global,
+    device: MemDevice,
+    frames: u32,
+) -> Result<M::Store, Fault> {
+    match M::store(alloc, device, frames) {
+        Ok(store) => Ok(store),
+        Err((fault, _)) => Err(fault),
     }
 }
 
 /// The room, the pages in use, the durable acts and the limits of the store that is opened on a device.
-fn sizes(alloc: Global, device: MemDevice) -> Result<(u32, u32, u64, Limits), Fault> {
-    let store = opened(alloc, device, 16)?;
+fn sizes_in<M: MemoryMedium>(
+    alloc: Global,
+    device: MemDevice,
+) -> Result<(u32, u32, u64, Limits), Fault> {
+    let store = opened::<M>(alloc, device, 16)?;
     Ok((store.room(), store.used(), store.durable(), store.limits()))
+}
+
+fn sizes(alloc: Global, device: MemDevice) -> Result<(u32, u32, u64, Limits), Fault> {
+    sizes_in::<Opened>(alloc, device)
 }
 
 #[test]
@@ -178,7 +191,7 @@ fn hostile_superblocks(rt: HostRuntime) -> Result<(), Fail> {
 }
 
 /// Two acts that are forced and one that isn't, on top of a checkpoint.
-fn make_busy<S: PageStore>(store: &mut S) -> Result<(), Fault> {
+fn make_busy<S: PlainStore>(store: &mut S) -> Result<(), Fault> {
     act(store, &[marked(1, 5)])?;
     checkpoint(store)?;
     act(store, &[marked(2, 6)])?;
@@ -188,26 +201,34 @@ fn make_busy<S: PageStore>(store: &mut S) -> Result<(), Fault> {
     Ok(())
 }
 
-/// A device whose log holds these.
-fn busy_device(alloc: Global) -> Result<MemDevice, Fault> {
-    let mut store = opened(alloc, made(alloc)?, 16)?;
+fn busy_device_in<M: MemoryMedium>(alloc: Global) -> Result<MemDevice, Fault> {
+    let mut store = opened::<M>(alloc, made(alloc)?, 16)?;
     let busy = make_busy(&mut store);
-    let device = device_of(store);
+    let device = M::device_of(store);
     busy?;
     Ok(device)
 }
 
+/// A device whose log holds these.
+fn busy_device(alloc: Global) -> Result<MemDevice, Fault> {
+    busy_device_in::<Opened>(alloc)
+}
+
 /// How many pages a store has, and the cycles of the first two leaves; none if it refuses them.
-fn cycles_in<S: PageStore>(store: &mut S) -> Option<(u32, u32, u32)> {
+fn cycles_in<S: PlainStore>(store: &mut S) -> Option<(u32, u32, u32)> {
     let first = page(store, 1).ok()?;
     let second = page(store, 2).ok()?;
     Some((store.used(), first.cycle, second.cycle))
 }
 
 /// The same of the index that is opened on the device; none if it is refused.
-fn cycles(alloc: Global, device: MemDevice) -> Option<(u32, u32, u32)> {
-    let mut store = opened(alloc, device, 1_024).ok()?;
+fn cycles_of<M: MemoryMedium>(alloc: Global, device: MemDevice) -> Option<(u32, u32, u32)> {
+    let mut store = opened::<M>(alloc, device, 1_024).ok()?;
     cycles_in(&mut store)
+}
+
+fn cycles(alloc: Global, device: MemDevice) -> Option<(u32, u32, u32)> {
+    cycles_of::<Opened>(alloc, device)
 }
 
 /// Whether each crash of a device leaves all that was forced.
@@ -227,17 +248,22 @@ fn leaves_all(alloc: Global, device: &MemDevice) -> bool {
 
 /// Opens a device a call of which fails, the nth from now on: whether it's refused, up to the tenth call,
 /// and what a crash leaves then has all that was forced. Answers also the device if it was refused.
-fn fails_right(alloc: Global, found: MemDevice, n: u64) -> (bool, Option<MemDevice>) {
-    match open(alloc, found, 16) {
+fn fails_right_in<M: MemoryMedium>(
+    alloc: Global,
+    found: MemDevice,
+    n: u64,
+) -> (bool, Option<MemDevice>) {
+    match M::store(alloc, found, 16) {
         Ok(store) => ((n, store.used()) == (11, 3), None),
-        Err(refused) => {
-            let are_left = leaves_all(alloc, &refused.device);
-            (
-                are_left && n < 11 && refused.fault == Fault::Io,
-                Some(refused.device),
-            )
+        Err((fault, device)) => {
+            let are_left = leaves_all(alloc, &device);
+            (are_left && n < 11 && fault == Fault::Io, Some(device))
         }
     }
+}
+
+fn fails_right(alloc: Global, found: MemDevice, n: u64) -> (bool, Option<MemDevice>) {
+    fails_right_in::<Opened>(alloc, found, n)
 }
 
 /// Whether that is so if the nth call fails and each later one.
@@ -286,11 +312,15 @@ fn each_call_of_an_open_fails(rt: HostRuntime) -> Result<(), Fail> {
 }
 
 /// What an open finds: how many pages are in use, and 0 if it is refused.
-fn used(alloc: Global, device: MemDevice) -> u32 {
-    match opened(alloc, device, 16) {
+fn used_in<M: MemoryMedium>(alloc: Global, device: MemDevice) -> u32 {
+    match M::store(alloc, device, 16) {
         Ok(store) => store.used(),
         Err(_) => 0,
     }
+}
+
+fn used(alloc: Global, device: MemDevice) -> u32 {
+    used_in::<Opened>(alloc, device)
 }
 
 /// Whether so many pages may be in use if a create stopped at this call: zeros over the superblock, sync,

@@ -1,15 +1,13 @@
 //! Calls without their contracts. A test looks at the answers alone, and what a call promises would be
 //! carried, call by call, to the end of the test that makes it.
 
-use access_method::Index;
-use amcheck::{CheckFault, Report, check_one, check_parents_one};
+use amcheck::{CheckFault, Report};
 use device::{CrashImage, Device, FileDevice, MemDevice, Unknown};
-use index_model::{Fault, NoProgress};
-use page_action::PageStore;
-use page_store::Store;
+use index_model::Fault;
 use std::alloc::Global;
 use std::fs::File;
 use std::rt::Files;
+use tests_support::plain_store::CheckedStore;
 
 /// The file that is there.
 pub fn file(rt: &impl Files<File = File>, path: &str) -> Result<FileDevice<Unknown>, Fault> {
@@ -29,15 +27,11 @@ pub fn copy(alloc: Global, device: &MemDevice) -> Result<MemDevice, Fault> {
 }
 
 /// What the check of the levels answers.
-pub fn levels<S: PageStore>(alloc: Global, store: &mut S) -> Result<Report, CheckFault> {
-    check_one(alloc, store, &NoProgress)
+pub fn levels<S: CheckedStore>(alloc: Global, store: &mut S) -> Result<Report, CheckFault> {
+    store.levels(alloc)
 }
 
 /// What the check of parents answers.
-pub fn parents<S: PageStore>(alloc: Global, store: &mut S) -> Result<Report, CheckFault> {
-    check_parents_one(alloc, store, &NoProgress)
-}
-
-pub fn into_device<D: Device>(index: Index<Store<D>>) -> D {
-    index.into_device()
+pub fn parents<S: CheckedStore>(alloc: Global, store: &mut S) -> Result<Report, CheckFault> {
+    store.parents(alloc)
 }

@@ -2,20 +2,20 @@
 
 use crate::base::{FRAMES, entry, keyed};
 use crate::dead::UpTo;
-use crate::plain::{into_device, levels, parents};
+use crate::plain::{levels, parents};
 use crate::plain_tree::{are_unique, is_tree};
-use access_method::{Index, Inserted, ScanToken};
+use access_method::{Inserted, ScanToken};
 use amcheck::{CheckFault, Report};
 use device::Device;
 use index_model::{Entry, Fault, Range, VacuumStats};
-use page_action::PageStore;
-use page_store::Store;
 use std::alloc::Global;
 use std::cmp::Ordering;
+use tests_support::medium::{Medium, Opened};
 use tests_support::plain::{
-    begin_scan, bulk_delete, checkpoint_of as checkpoint, clean_up, end_scan, index_over, insert,
-    next, open, page,
+    begin_scan, bulk_delete, checkpoint_of as checkpoint, clean_up, end_scan, insert, next, page,
 };
+use tests_support::plain_index::PlainIndex;
+use tests_support::plain_store::{CheckedStore, PlainStore};
 
 /// The rows of these blocks: about half of the entries, so that leaves are left empty.
 const DEAD: UpTo = UpTo { block: 15 };
@@ -51,12 +51,12 @@ struct Given {
 
 /// An index that was opened, and how many entries it has, if the verifier found no damage.
 #[derive(Drop)]
-struct Trial<S> {
-    index: Index<S>,
+struct Trial<I> {
+    index: I,
     entries: Option<u64>,
 }
 
-impl<S: PageStore> Trial<S> {
+impl<I: PlainIndex> Trial<I> {
     /// What the scan of this token gives.
     fn all_given(&mut self, token: ScanToken) -> Result<Given, Fault> {
         let mut given = Given {
@@ -201,7 +201,7 @@ fn is_open_fault(fault: Fault) -> bool {
 
 /// Whether the pages of a store are a B-link tree by the definition, and, if the index is unique, of such an
 /// index.
-fn is_sound_in<S: PageStore>(alloc: Global, store: &mut S) -> Result<bool, Fault> {
+fn is_sound_in<S: CheckedStore>(alloc: Global, store: &mut S) -> Result<bool, Fault> {
     let mut pages = Vec::new(alloc);
     for block in 0..store.used() {
         let found = page(store, block)?;
@@ -234,7 +234,7 @@ fn damage_of(checked: &Result<Report, CheckFault>) -> Option<(u8, u32)> {
 
 /// What both checks answer: a report of the pages, or the number of a damage; None if one was refused, or if
 /// the check of levels alone answers another damage.
-fn checked<S: PageStore>(alloc: Global, store: &mut S) -> Option<Result<Report, u8>> {
+fn checked<S: CheckedStore>(alloc: Global, store: &mut S) -> Option<Result<Report, u8>> {
     let first = levels(alloc, store);
     let second = parents(alloc, store);
     if let Some(report) = report_of(&second) {
@@ -253,7 +253,7 @@ fn checked<S: PageStore>(alloc: Global, store: &mut S) -> Option<Result<Report, 
 }
 
 /// What both checks answer, if the definition says the same of the pages: None if something went wrong.
-fn verified<S: PageStore>(alloc: Global, store: &mut S) -> Option<Result<Report, u8>> {
+fn verified<S: CheckedStore>(alloc: Global, store: &mut S) -> Option<Result<Report, u8>> {
     let found = checked(alloc, store)?;
     match is_sound_in(alloc, store) {
         Ok(is_sound) if is_sound == found.is_ok() => Some(found),
@@ -262,7 +262,7 @@ fn verified<S: PageStore>(alloc: Global, store: &mut S) -> Option<Result<Report,
 }
 
 /// What the verifier finds, as an outcome, and how many entries there are, if it finds no damage.
-fn begun<S: PageStore>(alloc: Global, store: &mut S) -> (Outcome, Option<u64>) {
+fn begun<S: CheckedStore>(alloc: Global, store: &mut S) -> (Outcome, Option<u64>) {
     match verified(alloc, store) {
         Some(Ok(report)) => (Outcome::Sound, Some(u64::from(report.entries))),
         Some(Err(number)) => (Outcome::Damaged(number), None),
@@ -271,7 +271,7 @@ fn begun<S: PageStore>(alloc: Global, store: &mut S) -> (Outcome, Option<u64>) {
 }
 
 /// Whether the verifier finds so many entries, or damage where the index wasn't sound.
-fn is_found_again<S: PageStore>(alloc: Global, store: &mut S, entries: Option<u64>) -> bool {
+fn is_found_again<S: CheckedStore>(alloc: Global, store: &mut S, entries: Option<u64>) -> bool {
     match verified(alloc, store) {
         Some(Ok(report)) => entries.is_none_or(|count| count == u64::from(report.entries)),
         Some(Err(_)) => entries.is_none(),
@@ -281,32 +281,32 @@ fn is_found_again<S: PageStore>(alloc: Global, store: &mut S, entries: Option<u6
 
 /// Whether an index opens again from its device, sound if it was. It may have grown up to a block that wasn't
 /// in use and is altered.
-fn opens_again<D: Device + Drop>(
+fn opens_again<D: Drop, M: Medium<D>>(
     alloc: Global,
     device: D,
     entries: Option<u64>,
     used: u32,
 ) -> bool {
-    match open(alloc, device, FRAMES) {
+    match M::store(alloc, device, FRAMES) {
         Ok(store) => {
             let mut store = store;
             is_found_again(alloc, &mut store, entries)
         }
-        Err(refused) => matches!(refused.fault, Fault::PageDamaged(block) if block > used),
+        Err((fault, _)) => matches!(fault, Fault::PageDamaged(block) if block > used),
     }
 }
 
 /// Makes each call of an index, and opens it again: the first that goes wrong.
-fn wrong_in<D: Device + Drop>(
+fn wrong_in<D: Drop, M: Medium<D>>(
     alloc: Global,
-    index: Index<Store<D>>,
+    index: M::Index,
     entries: Option<u64>,
     used: u32,
 ) -> Option<&'static str> {
     let mut trial = Trial { index, entries };
     let wrong = trial.find_wrong();
     let Trial { index, entries } = trial;
-    let opens = opens_again(alloc, into_device(index), entries, used);
+    let opens = opens_again::<D, M>(alloc, M::device_under(index), entries, used);
     if wrong.is_none() && !opens {
         return Some("an open behind all calls");
     }
@@ -314,38 +314,37 @@ fn wrong_in<D: Device + Drop>(
 }
 
 /// Makes each call of the index in a store, and opens it again: the first that goes wrong.
-fn wrong_over<D: Device + Drop>(
+fn wrong_over<D: Drop, M: Medium<D>>(
     alloc: Global,
-    store: Store<D>,
+    store: M::Store,
     entries: Option<u64>,
     used: u32,
 ) -> Option<&'static str> {
-    match index_over(alloc, store) {
-        Ok(index) => wrong_in(alloc, index, entries, used),
+    match M::index_over(alloc, store) {
+        Ok(index) => wrong_in::<D, M>(alloc, index, entries, used),
         Err(_) => Some("an index"),
     }
 }
 
 /// Verifies the index, makes each call, and opens it again.
-fn tried_in<D: Device + Drop>(alloc: Global, store: Store<D>) -> Outcome {
+fn tried_in<D: Drop, M: Medium<D>>(alloc: Global, store: M::Store) -> Outcome {
     let mut store = store;
     let (outcome, entries) = begun(alloc, &mut store);
     let used = store.used();
     if let Outcome::Wrong(_) = outcome {
         return outcome;
     }
-    match wrong_over(alloc, store, entries, used) {
+    match wrong_over::<D, M>(alloc, store, entries, used) {
         Some(wrong) => Outcome::Wrong(wrong),
         None => outcome,
     }
 }
 
 /// Opens the index, verifies it, makes each call, and opens it again.
-pub fn tried<D: Device + Drop>(alloc: Global, device: D) -> Outcome {
-    match open(alloc, device, FRAMES) {
-        Ok(store) => tried_in(alloc, store),
-        Err(refused) => {
-            let fault = refused.fault;
+fn tried_by<D: Drop, M: Medium<D>>(alloc: Global, device: D) -> Outcome {
+    match M::store(alloc, device, FRAMES) {
+        Ok(store) => tried_in::<D, M>(alloc, store),
+        Err((fault, _)) => {
             if is_open_fault(fault) {
                 Outcome::NotOpened
             } else {
@@ -353,4 +352,9 @@ pub fn tried<D: Device + Drop>(alloc: Global, device: D) -> Outcome {
             }
         }
     }
+}
+
+/// Opens the index on a device, verifies it, makes each call, and opens it again.
+pub fn tried<D: Device + Drop>(alloc: Global, device: D) -> Outcome {
+    tried_by::<D, Opened>(alloc, device)
 }

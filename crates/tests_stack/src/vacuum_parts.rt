@@ -1,6 +1,6 @@
 //! Bulk deletes and cleanups of an index of one user that go on in parts, between other calls.
 
-use access_method::{Index, RowSet, ScanToken};
+use access_method::{RowSet, ScanToken};
 use index_model::{DeadRows, Entry, Fault, RowAddr, VacuumStats};
 use page_action::PageStore;
 use std::alloc::Global;
@@ -10,6 +10,7 @@ use tests_support::plain::{
     begin_bulk_delete, begin_cleanup, begin_scan, bulk_delete, clean_up, commit, end_scan,
     end_vacuum, end_with_rows, index_over, insert, next, vacuum,
 };
+use tests_support::plain_index::PlainIndex;
 use tests_support::small::{ALL, LIMITS, entry, pages};
 
 // The entry of this key, and of the row of that number.
@@ -18,7 +19,7 @@ fn of(key: u8) -> Entry {
 }
 
 // Adds the entries of the keys from this one to below that one.
-fn add<S: PageStore>(index: &mut Index<S>, from: u8, below: u8) -> Result<(), Fault> {
+fn add<I: PlainIndex>(index: &mut I, from: u8, below: u8) -> Result<(), Fault> {
     for key in from..below {
         insert(index, of(key))?;
     }
@@ -35,14 +36,14 @@ fn rows(alloc: Global, keys: &[u8]) -> Result<RowSet, Fault> {
 }
 
 // Whether a scan of all gives the entries of these keys, in order, and then none.
-fn has<S: PageStore>(index: &mut Index<S>, keys: &[u8]) -> Result<bool, Fault> {
+fn has<I: PlainIndex>(index: &mut I, keys: &[u8]) -> Result<bool, Fault> {
     let token = begin_scan(index, ALL)?;
     let is_right = gives(index, token, keys)?;
     end_scan(index, token)?;
     Ok(is_right)
 }
 
-fn gives<S: PageStore>(index: &mut Index<S>, token: ScanToken, keys: &[u8]) -> Result<bool, Fault> {
+fn gives<I: PlainIndex>(index: &mut I, token: ScanToken, keys: &[u8]) -> Result<bool, Fault> {
     for key in keys {
         if next(index, token)? != Some(of(*key)) {
             return Ok(false);
@@ -53,7 +54,7 @@ fn gives<S: PageStore>(index: &mut Index<S>, token: ScanToken, keys: &[u8]) -> R
 
 // Parts of one step, until it has finished: its statistics, and how many parts went before. More than 1,000
 // are too many.
-fn finish<S: PageStore>(index: &mut Index<S>) -> Result<(VacuumStats, u32), Fault> {
+fn finish<I: PlainIndex>(index: &mut I) -> Result<(VacuumStats, u32), Fault> {
     for part in 0..1_000u32 {
         if let Some(stats) = vacuum(index, 1)? {
             return Ok((stats, part));
@@ -64,7 +65,7 @@ fn finish<S: PageStore>(index: &mut Index<S>) -> Result<(VacuumStats, u32), Faul
 
 // Deletes three of seven entries in parts of one step, and cleans up so: whether each has what is right, in
 // several parts.
-fn goes_on<S: PageStore>(alloc: Global, index: &mut Index<S>) -> Result<[bool; 9], Fault> {
+fn goes_on<I: PlainIndex>(alloc: Global, index: &mut I) -> Result<[bool; 9], Fault> {
     add(index, 1, 8)?;
     begin_bulk_delete(index, rows(alloc, &[2, 4, 6])?)?;
     let none = vacuum(index, 0)?;
@@ -88,7 +89,7 @@ fn goes_on<S: PageStore>(alloc: Global, index: &mut Index<S>) -> Result<[bool; 9
 }
 
 // Inserts, scans and commits between the parts of a bulk delete: whether each answers what is right.
-fn goes_on_beside<S: PageStore>(alloc: Global, index: &mut Index<S>) -> Result<[bool; 6], Fault> {
+fn goes_on_beside<I: PlainIndex>(alloc: Global, index: &mut I) -> Result<[bool; 6], Fault> {
     add(index, 1, 6)?;
     begin_bulk_delete(index, rows(alloc, &[1, 3])?)?;
     let first = vacuum(index, 1)?;
@@ -109,7 +110,7 @@ fn goes_on_beside<S: PageStore>(alloc: Global, index: &mut Index<S>) -> Result<[
 
 // One goes on already, or all sessions are taken: whether each other one is refused, and what is refused
 // changes nothing.
-fn refuses_others<S: PageStore>(alloc: Global, index: &mut Index<S>) -> Result<[bool; 8], Fault> {
+fn refuses_others<I: PlainIndex>(alloc: Global, index: &mut I) -> Result<[bool; 8], Fault> {
     add(index, 1, 4)?;
     let none = [
         vacuum(index, 1).err() == Some(Fault::NoSession),
@@ -138,7 +139,7 @@ fn refuses_others<S: PageStore>(alloc: Global, index: &mut Index<S>) -> Result<[
 }
 
 // It has one of the sessions of open scans, until it is ended.
-fn takes_a_session<S: PageStore>(index: &mut Index<S>) -> Result<[bool; 5], Fault> {
+fn takes_a_session<I: PlainIndex>(index: &mut I) -> Result<[bool; 5], Fault> {
     begin_cleanup(index)?;
     for _scan in 0..62 {
         begin_scan(index, ALL)?;
@@ -156,7 +157,7 @@ fn takes_a_session<S: PageStore>(index: &mut Index<S>) -> Result<[bool; 5], Faul
 
 // A scan stands on the leaf that a bulk delete needs: whether a part is refused and tried again, and it goes
 // on once the scan is over. One that is given up has removed nothing else.
-fn waits_for_a_scan<S: PageStore>(alloc: Global, index: &mut Index<S>) -> Result<[bool; 7], Fault> {
+fn waits_for_a_scan<I: PlainIndex>(alloc: Global, index: &mut I) -> Result<[bool; 7], Fault> {
     add(index, 1, 4)?;
     let token = begin_scan(index, ALL)?;
     let given = next(index, token)?;
@@ -198,13 +199,13 @@ fn forgotten(rows: &mut RowSet) -> Result<[[bool; 3]; 3], Fault> {
 }
 
 // Ends what goes on, and forgets the rows that are handed out.
-fn ended_and_forgotten<S: PageStore>(index: &mut Index<S>) -> Result<[[bool; 3]; 3], Fault> {
+fn ended_and_forgotten<I: PlainIndex>(index: &mut I) -> Result<[[bool; 3]; 3], Fault> {
     let mut rows = end_with_rows(index)?;
     forgotten(&mut rows)
 }
 
 // A bulk delete that is ended hands its rows out, which are forgotten little by little. A cleanup has none.
-fn hands_rows_out<S: PageStore>(alloc: Global, index: &mut Index<S>) -> Result<[bool; 2], Fault> {
+fn hands_rows_out<I: PlainIndex>(alloc: Global, index: &mut I) -> Result<[bool; 2], Fault> {
     begin_bulk_delete(index, rows(alloc, &[2, 4, 6])?)?;
     let handed = ended_and_forgotten(index)?;
     begin_cleanup(index)?;
@@ -226,7 +227,7 @@ enum Deed {
 }
 
 // Whether it is done right.
-fn does<S: PageStore>(alloc: Global, index: &mut Index<S>, deed: Deed) -> bool {
+fn does<I: PlainIndex>(alloc: Global, index: &mut I, deed: Deed) -> bool {
     match deed {
         Deed::GoesOn => goes_on(alloc, index) == Ok([true; 9]),
         Deed::GoesOnBeside => goes_on_beside(alloc, index) == Ok([true; 6]),

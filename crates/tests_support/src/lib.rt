@@ -3,5 +3,9 @@
 #![tactic(auto)]
 
 pub mod dead;
+pub mod medium;
 pub mod plain;
+pub mod plain_index;
+pub mod plain_store;
+pub mod plain_world;
 pub mod small;

@@ -1,10 +1,13 @@
 //! Calls without their contracts. A test looks at the answers alone, and what a call promises would be
 //! carried, call by call, to the end of the test that makes it.
 
+use crate::plain_index::PlainIndex;
+use crate::plain_store::PlainStore;
+use crate::plain_world::{DeviceWorld, PlainWorld};
 use access_method::{Index, Inserted, RowSet, ScanToken};
 use device::{CrashImage, Device, MemDevice};
 use index_model::{DeadRows, Entry, Fault, Limits, Range, VacuumStats};
-use page_action::{PageStore, find_misplaced};
+use page_action::PageStore;
 use page_codec::Page;
 use page_store::Store;
 use recovery::Refused;
@@ -67,29 +70,23 @@ pub fn device_of<D: Device>(store: Store<D>) -> D {
 }
 
 /// Changes these pages at once; `PageDamaged` if a store would not take them.
-pub fn act<S: PageStore>(store: &mut S, pages: &[Page]) -> Result<u64, Fault> {
-    if pages.is_empty()
-        || pages.len() > 4
-        || find_misplaced(pages, store.used(), store.format()).is_some()
-    {
-        return Err(Fault::PageDamaged(0));
-    }
+pub fn act<S: PlainStore>(store: &mut S, pages: &[Page]) -> Result<u64, Fault> {
     store.act(pages)
 }
 
-pub fn page<S: PageStore>(store: &mut S, block: u32) -> Result<Page, Fault> {
+pub fn page<S: PlainStore>(store: &mut S, block: u32) -> Result<Page, Fault> {
     store.page(block)
 }
 
-pub fn force<S: PageStore>(store: &mut S) -> Result<u64, Fault> {
+pub fn force<S: PlainStore>(store: &mut S) -> Result<u64, Fault> {
     store.force()
 }
 
-pub fn flush<S: PageStore>(store: &mut S) -> Result<Option<u32>, Fault> {
+pub fn flush<S: PlainStore>(store: &mut S) -> Result<Option<u32>, Fault> {
     store.flush()
 }
 
-pub fn checkpoint<S: PageStore>(store: &mut S) -> Result<u64, Fault> {
+pub fn checkpoint<S: PlainStore>(store: &mut S) -> Result<u64, Fault> {
     store.checkpoint()
 }
 
@@ -117,12 +114,12 @@ pub fn open_world<D: Device, T: DeadRows + Drop>(
     World::open(alloc, device, frames, sessions, sets)
 }
 
-pub fn one<S: PageStore, T: DeadRows + Drop>(world: &mut World<S, T>, event: Event) -> Answer {
+pub fn one<W: PlainWorld>(world: &mut W, event: Event) -> Answer {
     world.one(event)
 }
 
-pub fn run<S: PageStore, T: DeadRows + Drop>(
-    world: &mut World<S, T>,
+pub fn run<W: PlainWorld>(
+    world: &mut W,
     events: &[Event],
     answers: &mut Vec<Answer>,
 ) -> Result<(), Fault> {
@@ -130,10 +127,7 @@ pub fn run<S: PageStore, T: DeadRows + Drop>(
 }
 
 /// Room for so many images: if there is less, a checkpoint.
-fn make_room<S: PageStore, T: DeadRows + Drop>(
-    world: &mut World<S, T>,
-    least_room: u32,
-) -> Result<(), Fault> {
+fn make_room<W: PlainWorld>(world: &mut W, least_room: u32) -> Result<(), Fault> {
     if world.room() >= least_room {
         return Ok(());
     }
@@ -144,11 +138,7 @@ fn make_room<S: PageStore, T: DeadRows + Drop>(
 }
 
 /// A step of a session's call, for which there is room.
-fn step<S: PageStore, T: DeadRows + Drop>(
-    world: &mut World<S, T>,
-    session: u32,
-    least_room: u32,
-) -> Result<Answer, Fault> {
+fn step<W: PlainWorld>(world: &mut W, session: u32, least_room: u32) -> Result<Answer, Fault> {
     make_room(world, least_room)?;
     Ok(world.one(Event::Step(session)))
 }
@@ -166,17 +156,13 @@ pub fn put_set<S: PageStore, T: DeadRows + Drop>(
 }
 
 /// A step of a session's call, with the checkpoint that may go before it.
-pub fn take_step<S: PageStore, T: DeadRows + Drop>(
-    world: &mut World<S, T>,
-    session: u32,
-    least_room: u32,
-) -> Answer {
+pub fn take_step<W: PlainWorld>(world: &mut W, session: u32, least_room: u32) -> Answer {
     world.take_step(session, least_room)
 }
 
 /// Steps of a session's call until one doesn't answer `Going`, and that answer.
-pub fn finish<S: PageStore, T: DeadRows + Drop>(
-    world: &mut World<S, T>,
+pub fn finish<W: PlainWorld>(
+    world: &mut W,
     session: u32,
     least_room: u32,
 ) -> Result<Answer, Fault> {
@@ -190,8 +176,8 @@ pub fn finish<S: PageStore, T: DeadRows + Drop>(
 }
 
 /// An insert, stepped until a step doesn't answer `Going`, and that answer.
-pub fn put<S: PageStore, T: DeadRows + Drop>(
-    world: &mut World<S, T>,
+pub fn put<W: PlainWorld>(
+    world: &mut W,
     session: u32,
     entry: Entry,
     least_room: u32,
@@ -203,11 +189,7 @@ pub fn put<S: PageStore, T: DeadRows + Drop>(
 }
 
 /// The next entry that a session's scan has ready; if none is, a step of it.
-fn advance<S: PageStore, T: DeadRows + Drop>(
-    world: &mut World<S, T>,
-    session: u32,
-    least_room: u32,
-) -> Result<Answer, Fault> {
+fn advance<W: PlainWorld>(world: &mut W, session: u32, least_room: u32) -> Result<Answer, Fault> {
     match world.one(Event::Next(session)) {
         Answer::Gave(None) => step(world, session, least_room),
         answer => Ok(answer),
@@ -215,8 +197,8 @@ fn advance<S: PageStore, T: DeadRows + Drop>(
 }
 
 /// The next entry of a session's scan, or None at its end.
-fn seek<S: PageStore, T: DeadRows + Drop>(
-    world: &mut World<S, T>,
+fn seek<W: PlainWorld>(
+    world: &mut W,
     session: u32,
     least_room: u32,
 ) -> Result<Option<Entry>, Fault> {
@@ -232,8 +214,8 @@ fn seek<S: PageStore, T: DeadRows + Drop>(
 }
 
 /// The next entry of a session's scan, or None at its end. The scan is given up then, and if it is refused.
-pub fn give<S: PageStore, T: DeadRows + Drop>(
-    world: &mut World<S, T>,
+pub fn give<W: PlainWorld>(
+    world: &mut W,
     session: u32,
     least_room: u32,
 ) -> Result<Option<Entry>, Fault> {
@@ -245,29 +227,26 @@ pub fn give<S: PageStore, T: DeadRows + Drop>(
 }
 
 /// The page of a block of a world.
-pub fn page_in<S: PageStore, T: DeadRows + Drop>(
-    world: &mut World<S, T>,
-    block: u32,
-) -> Result<Page, Fault> {
+pub fn page_in<W: PlainWorld>(world: &mut W, block: u32) -> Result<Page, Fault> {
     world.page(block)
 }
 
 /// What a crash leaves of a world.
-pub fn left_by<T: DeadRows + Drop>(
+pub fn left_by<W: DeviceWorld>(
     alloc: Global,
-    world: &World<Store<MemDevice>, T>,
+    world: &W,
     image: CrashImage,
 ) -> Result<MemDevice, Fault> {
-    world.crash(alloc, image)
+    world.left_by(alloc, image)
 }
 
 /// The `n`th device call from now on fails; none for 0.
-pub fn fail_at<T: DeadRows + Drop>(world: &mut World<Store<MemDevice>, T>, n: u64) {
+pub fn fail_at<W: DeviceWorld>(world: &mut W, n: u64) {
     world.fail_at(n);
 }
 
 /// From the `n`th device call from now on each fails; none for 0.
-pub fn stop_at<T: DeadRows + Drop>(world: &mut World<Store<MemDevice>, T>, n: u64) {
+pub fn stop_at<W: DeviceWorld>(world: &mut W, n: u64) {
     world.stop_at(n);
 }
 
@@ -291,11 +270,11 @@ pub fn index_over<S: PageStore + Drop>(alloc: Global, store: S) -> Result<Index<
     }
 }
 
-pub fn insert<S: PageStore>(index: &mut Index<S>, entry: Entry) -> Result<Inserted, Fault> {
-    index.aminsert(entry)
+pub fn insert<I: PlainIndex>(index: &mut I, entry: Entry) -> Result<Inserted, Fault> {
+    index.insert(entry)
 }
 
-pub fn commit<S: PageStore>(index: &mut Index<S>) -> Result<u64, Fault> {
+pub fn commit<I: PlainIndex>(index: &mut I) -> Result<u64, Fault> {
     index.commit()
 }
 
@@ -305,63 +284,56 @@ pub fn advance_commit<D: Device>(index: &mut Index<Store<D>>) -> Result<Advance,
 }
 
 /// A checkpoint of an index.
-pub fn checkpoint_of<S: PageStore>(index: &mut Index<S>) -> Result<u64, Fault> {
+pub fn checkpoint_of<I: PlainIndex>(index: &mut I) -> Result<u64, Fault> {
     index.checkpoint()
 }
 
-pub fn begin_scan<S: PageStore>(index: &mut Index<S>, range: Range) -> Result<ScanToken, Fault> {
-    index.ambeginscan(range)
+pub fn begin_scan<I: PlainIndex>(index: &mut I, range: Range) -> Result<ScanToken, Fault> {
+    index.begin_scan(range)
 }
 
-pub fn rescan<S: PageStore>(
-    index: &mut Index<S>,
-    token: ScanToken,
-    range: Range,
-) -> Result<(), Fault> {
-    index.amrescan(token, range)
+pub fn rescan<I: PlainIndex>(index: &mut I, token: ScanToken, range: Range) -> Result<(), Fault> {
+    index.rescan(token, range)
 }
 
-pub fn next<S: PageStore>(index: &mut Index<S>, token: ScanToken) -> Result<Option<Entry>, Fault> {
-    index.amgettuple(token)
+pub fn next<I: PlainIndex>(index: &mut I, token: ScanToken) -> Result<Option<Entry>, Fault> {
+    index.next(token)
 }
 
-pub fn end_scan<S: PageStore>(index: &mut Index<S>, token: ScanToken) -> Result<(), Fault> {
-    index.amendscan(token)
+pub fn end_scan<I: PlainIndex>(index: &mut I, token: ScanToken) -> Result<(), Fault> {
+    index.end_scan(token)
 }
 
-pub fn bulk_delete<S: PageStore, T: DeadRows>(
-    index: &mut Index<S>,
+pub fn bulk_delete<I: PlainIndex, T: DeadRows>(
+    index: &mut I,
     dead: &T,
 ) -> Result<VacuumStats, Fault> {
-    index.ambulkdelete(dead)
+    index.bulk_delete(dead)
 }
 
-pub fn clean_up<S: PageStore>(index: &mut Index<S>) -> Result<VacuumStats, Fault> {
-    index.amvacuumcleanup()
+pub fn clean_up<I: PlainIndex>(index: &mut I) -> Result<VacuumStats, Fault> {
+    index.clean_up()
 }
 
-pub fn begin_bulk_delete<S: PageStore>(index: &mut Index<S>, rows: RowSet) -> Result<(), Fault> {
+pub fn begin_bulk_delete<I: PlainIndex>(index: &mut I, rows: RowSet) -> Result<(), Fault> {
     index.begin_bulk_delete(rows)
 }
 
-pub fn begin_cleanup<S: PageStore>(index: &mut Index<S>) -> Result<(), Fault> {
+pub fn begin_cleanup<I: PlainIndex>(index: &mut I) -> Result<(), Fault> {
     index.begin_cleanup()
 }
 
 /// So many steps more of the bulk delete or cleanup that goes on in parts.
-pub fn vacuum<S: PageStore>(
-    index: &mut Index<S>,
-    steps: u32,
-) -> Result<Option<VacuumStats>, Fault> {
+pub fn vacuum<I: PlainIndex>(index: &mut I, steps: u32) -> Result<Option<VacuumStats>, Fault> {
     index.vacuum(steps)
 }
 
 /// Ends it, and hands its rows out.
-pub fn end_with_rows<S: PageStore>(index: &mut Index<S>) -> Result<RowSet, Fault> {
+pub fn end_with_rows<I: PlainIndex>(index: &mut I) -> Result<RowSet, Fault> {
     index.end_vacuum()
 }
 
-pub fn end_vacuum<S: PageStore>(index: &mut Index<S>) -> Result<(), Fault> {
+pub fn end_vacuum<I: PlainIndex>(index: &mut I) -> Result<(), Fault> {
     let _rows = end_with_rows(index)?;
     Ok(())
 }

@@ -2,12 +2,11 @@
 
 use crate::indexes::{InMemory, all_entries, fresh_calls, made, opened};
 use crate::judge::{Addition, are_those_by, count, tells_of_failure};
-use crate::judged::{Done, calls_in, ran};
+use crate::judged::{calls_in, ran};
 use crate::lists::{entry, range};
 use crate::plain::{actions, is_left_sound_to_all};
 use device::{CrashImage, MemDevice};
 use index_model::Limits;
-use page_action::PageStore;
 use session_calls::Answer;
 use shared_world::{Job, Record};
 use std::alloc::{AllocError, Global};
@@ -15,9 +14,8 @@ use std::process::Abort;
 use std::sync::Wait;
 use std::test::{Fail, *};
 use std::thread::Threads;
-use tests_support::dead::Blocks;
 use tests_support::plain::{fail_at, left_by, stop_at};
-use world::World;
+use tests_support::plain_world::{DeviceWorld, PlainWorld};
 
 const LIMITS: Limits = Limits {
     items: 4,
@@ -54,7 +52,7 @@ pub enum Failing {
 }
 
 /// The nth call of the device from now on fails.
-fn will_fail(world: &mut InMemory, how: Failing, n: u64) {
+fn will_fail<W: DeviceWorld>(world: &mut W, how: Failing, n: u64) {
     match how {
         Failing::Once => fail_at(world, n),
         Failing::ForGood => stop_at(world, n),
@@ -92,9 +90,9 @@ fn last_forced(history: &[Record]) -> u64 {
 
 /// The entries of an index are those that some prefix of the actions added, which holds the durable ones.
 /// Answers whether one is lacking.
-fn has_prefix<S: PageStore>(
+fn has_prefix<W: PlainWorld>(
     rt: &(impl Abort + AllocGlobal + Print + Eprint),
-    world: &mut World<S, Blocks>,
+    world: &mut W,
     added: &[Option<Addition>],
     durable: u64,
     last: u64,
@@ -127,16 +125,16 @@ pub fn opens_right(
 }
 
 /// Opens each image of a crash.
-fn open_right(
+fn open_right<W: DeviceWorld>(
     rt: &(impl Abort + AllocGlobal + Print + Eprint + Threads + Wait + Sync),
-    done: &Done,
+    world: &W,
+    durable: u64,
     added: &[Option<Addition>],
     counted: &mut Counted,
 ) -> Result<(), Fail> {
-    let durable = last_forced(done.history.as_slice());
-    let last = actions(&done.world);
+    let last = actions(world);
     for image in [CrashImage::Keep, CrashImage::Drop, CrashImage::Tear] {
-        let found = left_by(rt.alloc(), &done.world, image)?;
+        let found = left_by(rt.alloc(), world, image)?;
         opens_right(rt, found, added, durable, last, counted)?;
     }
     Ok(())
@@ -162,7 +160,8 @@ fn told_and_calls(
     counted: &mut Counted,
 ) -> Result<(bool, u64), Fail> {
     let (done, added) = ran(rt, world, jobs, workers, LIMITS.pages, true)?;
-    let is_right = open_right(rt, &done, added.as_slice(), counted);
+    let durable = last_forced(done.history.as_slice());
+    let is_right = open_right(rt, &done.world, durable, added.as_slice(), counted);
     let has_told = do_tell(done.history.as_slice());
     let calls = calls_in(done);
     is_right?;

@@ -12,6 +12,7 @@ use std::alloc::{AllocError, Global};
 use std::test::Fail;
 use tests_support::dead::Blocks;
 use tests_support::plain::{create, device, one, open_world};
+use tests_support::plain_world::PlainWorld;
 use world::World;
 
 /// An index on a device in memory.
@@ -73,10 +74,7 @@ pub fn fresh_calls(alloc: Global, limits: &Limits, sessions: u32) -> Result<u64,
 }
 
 /// All entries, by a scan of session 0.
-pub fn all_entries<S: PageStore>(
-    alloc: Global,
-    world: &mut World<S, Blocks>,
-) -> Result<Vec<Entry>, Fail> {
+pub fn all_entries<W: PlainWorld>(alloc: Global, world: &mut W) -> Result<Vec<Entry>, Fail> {
     let mut entries = Vec::new(alloc);
     if let Answer::Refused(fault) = one(world, Event::Scan(0, ALL)) {
         return Err(Fail::from(fault));

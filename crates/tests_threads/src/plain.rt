@@ -10,6 +10,7 @@ use shared_world::Job;
 use std::alloc::Global;
 use std::sync::Wait;
 use std::thread::Threads;
+use tests_support::plain_world::PlainWorld;
 use world::World;
 
 /// Each entry.
@@ -58,12 +59,12 @@ pub fn hands_of<
 }
 
 /// How many actions there are.
-pub fn actions<S: PageStore, T: DeadRows + Drop>(world: &World<S, T>) -> u64 {
+pub fn actions<W: PlainWorld>(world: &W) -> u64 {
     world.actions()
 }
 
 /// Gives up the call of a session.
-pub fn abandon<S: PageStore, T: DeadRows + Drop>(world: &mut World<S, T>, session: u32) -> Answer {
+pub fn abandon<W: PlainWorld>(world: &mut W, session: u32) -> Answer {
     world.abandon(session)
 }
 

@@ -9,21 +9,65 @@ use page_action::PageStore;
 use shared_index::{NotPut, RowsDeleted, SharedIndex, SharedSession};
 use shared_world::OriginOn;
 use std::sync::Wait;
-use std::time::Clock;
+use std::time::{Clock, Duration};
 
-/// Inserts an entry: by which action.
-pub fn insert<S: PageStore, T: DeadRows + Drop, J: OriginOn<S>, R: Wait + Clock>(
-    rt: &R,
-    index: &SharedIndex<S, T, J>,
-    session: &mut SharedSession<J>,
-    entry: Entry,
-) -> Result<u64, Fault>
-    ensures { number_of_seat session.new.seat ≡ number_of_seat session.old.seat }
-{
-    match session.insert(rt, index, entry) {
-        Ok(inserted) => Ok(inserted.action),
-        Err(fault) => Err(fault),
-    }
+/// What a bulk delete told that brought a set: how many entries it removed, and the set that was there.
+pub type Deleted<T> = (Result<u64, Fault>, T);
+
+/// A session of an index `X` that threads share: a test sees the answers alone, and that the session keeps
+/// its number. A function over `SharedIndex` and `SharedSession` takes the prover several times as long.
+pub trait PlainSession<X> {
+    ghost use Rattle.std.specs.Prelude.{◌≡◌, ℕ};
+
+    /// The sets of dead rows that its bulk deletes bring.
+    type Rows: Drop;
+
+    ghost number: { Self → ℕ };
+
+    fn set_patience(&mut self, patience: Option<Duration>)
+        ensures { number self.new ≡ number self.old };
+
+    /// Inserts an entry: by which action.
+    fn insert<R: Wait + Clock>(&mut self, rt: &R, index: &X, entry: Entry) -> Result<u64, Fault>
+        ensures { number self.new ≡ number self.old };
+
+    /// Deletes by the set at this place: how many entries that removed.
+    fn bulk_delete<R: Wait + Clock>(&mut self, rt: &R, index: &X, set: u32) -> Result<u64, Fault>
+        ensures { number self.new ≡ number self.old };
+
+    /// Deletes by this set. If it is refused, it comes back.
+    fn delete_rows<R: Wait + Clock>(
+        &mut self,
+        rt: &R,
+        index: &X,
+        set: Self::Rows,
+    ) -> Result<Deleted<Self::Rows>, (Fault, Self::Rows)>
+        ensures { number self.new ≡ number self.old };
+
+    fn clean_up<R: Wait + Clock>(&mut self, rt: &R, index: &X) -> Result<(), Fault>
+        ensures { number self.new ≡ number self.old };
+
+    fn commit<R: Wait + Clock>(&mut self, rt: &R, index: &X) -> Result<u64, Fault>
+        ensures { number self.new ≡ number self.old };
+
+    fn checkpoint<R: Wait + Clock>(&mut self, rt: &R, index: &X) -> Result<u64, Fault>
+        ensures { number self.new ≡ number self.old };
+
+    fn scan<R: Wait + Clock>(&mut self, rt: &R, index: &X, range: Range) -> Result<(), Fault>
+        ensures { number self.new ≡ number self.old };
+
+    /// Puts the scan's next entries behind those that are there, as many as there is room for. Whether it is
+    /// over.
+    fn batch<R: Wait + Clock>(
+        &mut self,
+        rt: &R,
+        index: &X,
+        given: &mut Vec<Entry>,
+    ) -> Result<bool, Fault>
+        ensures { number self.new ≡ number self.old };
+
+    fn leave_scan<R: Wait + Clock>(&mut self, rt: &R, index: &X) -> Result<(), Fault>
+        ensures { number self.new ≡ number self.old };
 }
 
 // How many entries a bulk delete removed.
@@ -34,99 +78,99 @@ fn removed(told: Result<VacuumStats, Fault>) -> Result<u64, Fault> {
     }
 }
 
-/// Deletes by the set at this place: how many entries that removed.
-pub fn bulk_delete<S: PageStore, T: DeadRows + Drop, J: OriginOn<S>, R: Wait + Clock>(
-    rt: &R,
-    index: &SharedIndex<S, T, J>,
-    session: &mut SharedSession<J>,
-    set: u32,
-) -> Result<u64, Fault>
-    ensures { number_of_seat session.new.seat ≡ number_of_seat session.old.seat }
-{
-    removed(session.bulk_delete(rt, index, set))
-}
+impl<S: PageStore, T: DeadRows + Drop, J: OriginOn<S>> PlainSession<SharedIndex<S, T, J>>
+    for SharedSession<J> {
+    type Rows = T;
 
-/// What a bulk delete told that brought a set: how many entries it removed, and the set that was there.
-pub type Deleted<T> = (Result<u64, Fault>, T);
+    ghost number = { λ s. number_of_seat s.seat };
 
-/// Deletes by this set. If it is refused, it comes back.
-pub fn delete_rows<S: PageStore, T: DeadRows + Drop, J: OriginOn<S>, R: Wait + Clock>(
-    rt: &R,
-    index: &SharedIndex<S, T, J>,
-    session: &mut SharedSession<J>,
-    set: T,
-) -> Result<Deleted<T>, (Fault, T)>
-    ensures { number_of_seat session.new.seat ≡ number_of_seat session.old.seat }
-{
-    match session.delete_rows(rt, index, set) {
-        Ok(RowsDeleted { told, was }) => Ok((removed(told), was)),
-        Err(NotPut { fault, set }) => Err((fault, set)),
+    fn set_patience(&mut self, patience: Option<Duration>) {
+        SharedSession::set_patience(self, patience);
     }
-}
 
-pub fn clean_up<S: PageStore, T: DeadRows + Drop, J: OriginOn<S>, R: Wait + Clock>(
-    rt: &R,
-    index: &SharedIndex<S, T, J>,
-    session: &mut SharedSession<J>,
-) -> Result<(), Fault>
-    ensures { number_of_seat session.new.seat ≡ number_of_seat session.old.seat }
-{
-    match session.clean_up(rt, index) {
-        Ok(_stats) => Ok(()),
-        Err(fault) => Err(fault),
+    fn insert<R: Wait + Clock>(
+        &mut self,
+        rt: &R,
+        index: &SharedIndex<S, T, J>,
+        entry: Entry,
+    ) -> Result<u64, Fault> {
+        match SharedSession::insert(self, rt, index, entry) {
+            Ok(inserted) => Ok(inserted.action),
+            Err(fault) => Err(fault),
+        }
     }
-}
 
-pub fn commit<S: PageStore, T: DeadRows + Drop, J: OriginOn<S>, R: Wait + Clock>(
-    rt: &R,
-    index: &SharedIndex<S, T, J>,
-    session: &mut SharedSession<J>,
-) -> Result<u64, Fault>
-    ensures { number_of_seat session.new.seat ≡ number_of_seat session.old.seat }
-{
-    session.commit(rt, index)
-}
+    fn bulk_delete<R: Wait + Clock>(
+        &mut self,
+        rt: &R,
+        index: &SharedIndex<S, T, J>,
+        set: u32,
+    ) -> Result<u64, Fault> {
+        removed(SharedSession::bulk_delete(self, rt, index, set))
+    }
 
-pub fn checkpoint<S: PageStore, T: DeadRows + Drop, J: OriginOn<S>, R: Wait + Clock>(
-    rt: &R,
-    index: &SharedIndex<S, T, J>,
-    session: &mut SharedSession<J>,
-) -> Result<u64, Fault>
-    ensures { number_of_seat session.new.seat ≡ number_of_seat session.old.seat }
-{
-    session.checkpoint(rt, index)
-}
+    fn delete_rows<R: Wait + Clock>(
+        &mut self,
+        rt: &R,
+        index: &SharedIndex<S, T, J>,
+        set: T,
+    ) -> Result<Deleted<T>, (Fault, T)> {
+        match SharedSession::delete_rows(self, rt, index, set) {
+            Ok(RowsDeleted { told, was }) => Ok((removed(told), was)),
+            Err(NotPut { fault, set }) => Err((fault, set)),
+        }
+    }
 
-pub fn scan<S: PageStore, T: DeadRows + Drop, J: OriginOn<S>, R: Wait + Clock>(
-    rt: &R,
-    index: &SharedIndex<S, T, J>,
-    session: &mut SharedSession<J>,
-    range: Range,
-) -> Result<(), Fault>
-    ensures { number_of_seat session.new.seat ≡ number_of_seat session.old.seat }
-{
-    session.scan(rt, index, range)
-}
+    fn clean_up<R: Wait + Clock>(
+        &mut self,
+        rt: &R,
+        index: &SharedIndex<S, T, J>,
+    ) -> Result<(), Fault> {
+        match SharedSession::clean_up(self, rt, index) {
+            Ok(_stats) => Ok(()),
+            Err(fault) => Err(fault),
+        }
+    }
 
-/// Puts the scan's next entries behind those that are there, as many as there is room for. Whether it is
-/// over.
-pub fn batch<S: PageStore, T: DeadRows + Drop, J: OriginOn<S>, R: Wait + Clock>(
-    rt: &R,
-    index: &SharedIndex<S, T, J>,
-    session: &mut SharedSession<J>,
-    given: &mut Vec<Entry>,
-) -> Result<bool, Fault>
-    ensures { number_of_seat session.new.seat ≡ number_of_seat session.old.seat }
-{
-    session.batch(rt, index, given)
-}
+    fn commit<R: Wait + Clock>(
+        &mut self,
+        rt: &R,
+        index: &SharedIndex<S, T, J>,
+    ) -> Result<u64, Fault> {
+        SharedSession::commit(self, rt, index)
+    }
 
-pub fn leave_scan<S: PageStore, T: DeadRows + Drop, J: OriginOn<S>, R: Wait + Clock>(
-    rt: &R,
-    index: &SharedIndex<S, T, J>,
-    session: &mut SharedSession<J>,
-) -> Result<(), Fault>
-    ensures { number_of_seat session.new.seat ≡ number_of_seat session.old.seat }
-{
-    session.leave_scan(rt, index)
+    fn checkpoint<R: Wait + Clock>(
+        &mut self,
+        rt: &R,
+        index: &SharedIndex<S, T, J>,
+    ) -> Result<u64, Fault> {
+        SharedSession::checkpoint(self, rt, index)
+    }
+
+    fn scan<R: Wait + Clock>(
+        &mut self,
+        rt: &R,
+        index: &SharedIndex<S, T, J>,
+        range: Range,
+    ) -> Result<(), Fault> {
+        SharedSession::scan(self, rt, index, range)
+    }
+
+    fn batch<R: Wait + Clock>(
+        &mut self,
+        rt: &R,
+        index: &SharedIndex<S, T, J>,
+        given: &mut Vec<Entry>,
+    ) -> Result<bool, Fault> {
+        SharedSession::batch(self, rt, index, given)
+    }
+
+    fn leave_scan<R: Wait + Clock>(
+        &mut self,
+        rt: &R,
+        index: &SharedIndex<S, T, J>,
+    ) -> Result<(), Fault> {
+        SharedSession::leave_scan(self, rt, index)
+    }
 }

@@ -1,12 +1,11 @@
 //! Threads that share an index by sessions, each with calls at its own times.
 
 ghost use Rattle.std.specs.Prelude.{◌≡◌};
-ghost use Rattle.shared_index.specs.Sessions.{number_of_seat};
 
 use crate::indexes::made;
 use crate::lists::entry;
 use crate::serving::{entries_left, served};
-use crate::session::{bulk_delete, commit, insert};
+use crate::session::PlainSession;
 use index_model::{DeadRows, Entry, Fault, Limits};
 use page_action::PageStore;
 use shared_index::{Client, SharedIndex, SharedSession};
@@ -55,13 +54,13 @@ struct Told {
 }
 
 impl<'a, R: Wait + Clock> Writers<'a, R> {
-    fn told<S: PageStore, T: DeadRows + Drop, J: OriginOn<S>>(
+    fn told<X, K: PlainSession<X>>(
         &self,
-        index: &SharedIndex<S, T, J>,
-        session: &mut SharedSession<J>,
+        index: &X,
+        session: &mut K,
         number: u32,
     ) -> Result<Told, Fault>
-        ensures { number_of_seat session.new.seat ≡ number_of_seat session.old.seat }
+        ensures { K.number session.new ≡ K.number session.old }
     {
         let mut told = Told {
             inserted: 0,
@@ -69,13 +68,13 @@ impl<'a, R: Wait + Clock> Writers<'a, R> {
             removed: 0,
         };
         for place in 0..EACH {
-            insert(self.rt, index, session, entry_of(number, place))?;
+            session.insert(self.rt, index, entry_of(number, place))?;
             told.inserted = told.inserted.saturating_add(1);
             if place % 10 == 9 {
-                told.durable = commit(self.rt, index, session)?;
+                told.durable = session.commit(self.rt, index)?;
             }
             if place == 50 && number == 4 {
-                told.removed = bulk_delete(self.rt, index, session, 2)?;
+                told.removed = session.bulk_delete(self.rt, index, 2)?;
             }
         }
         Ok(told)

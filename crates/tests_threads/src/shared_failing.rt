@@ -1,7 +1,6 @@
 //! Threads that share an index whose device stops at one of its calls.
 
 ghost use Rattle.std.specs.Prelude.{◌≡◌};
-ghost use Rattle.shared_index.specs.Sessions.{number_of_seat};
 
 use crate::failed_calls::{Counted, Failing, made_failing, opens_right};
 use crate::indexes::InMemory;
@@ -9,19 +8,19 @@ use crate::judge::Addition;
 use crate::lists::entry;
 use crate::plain::{ALL, actions};
 use crate::serving::served;
-use crate::session::{batch, bulk_delete, checkpoint, clean_up, commit, insert, leave_scan, scan};
+use crate::session::PlainSession;
 use device::CrashImage;
 use index_model::{DeadRows, Fault};
 use page_action::PageStore;
 use shared_index::{Client, SharedIndex, SharedSession};
 use shared_world::OriginOn;
-use std::alloc::Global;
 use std::process::Abort;
 use std::sync::Wait;
 use std::test::{Fail, *};
 use std::thread::Threads;
 use std::time::Clock;
 use tests_support::plain::left_by;
+use tests_support::plain_world::DeviceWorld;
 
 /// How many threads there are, and how many entries each inserts.
 const THREADS: u32 = 3;
@@ -72,70 +71,66 @@ struct Committers<'a, R: Wait> {
 
 impl<'a, R: Wait + Clock + AllocGlobal> Committers<'a, R> {
     /// Inserts an entry, and commits behind each third, or makes a checkpoint.
-    fn add<S: PageStore, T: DeadRows + Drop, J: OriginOn<S>>(
+    fn add<X, K: PlainSession<X>>(
         &self,
-        index: &SharedIndex<S, T, J>,
-        session: &mut SharedSession<J>,
+        index: &X,
+        session: &mut K,
         number: u32,
         place: usize,
         told: &mut Told,
     ) -> Result<(), Fault>
-        ensures { number_of_seat session.new.seat ≡ number_of_seat session.old.seat }
+        ensures { K.number session.new ≡ K.number session.old }
     {
-        let action = insert(self.rt, index, session, entry(key_of(number, place), 0))?;
+        let action = session.insert(self.rt, index, entry(key_of(number, place), 0))?;
         if let Some(added) = told.added.get_mut(place) {
             *added = Some(action);
         }
         if place == 3 && number == 0 {
-            told.durable = checkpoint(self.rt, index, session)?;
+            told.durable = session.checkpoint(self.rt, index)?;
         } else if place % 3 == 2 {
-            told.durable = commit(self.rt, index, session)?;
+            told.durable = session.commit(self.rt, index)?;
         }
         Ok(())
     }
 
     /// A scan of all.
-    fn scan_all<S: PageStore, T: DeadRows + Drop, J: OriginOn<S>>(
-        &self,
-        index: &SharedIndex<S, T, J>,
-        session: &mut SharedSession<J>,
-    ) -> Result<(), Fault>
-        ensures { number_of_seat session.new.seat ≡ number_of_seat session.old.seat }
+    fn scan_all<X, K: PlainSession<X>>(&self, index: &X, session: &mut K) -> Result<(), Fault>
+        ensures { K.number session.new ≡ K.number session.old }
     {
         let Ok(mut given) = Vec::with_capacity(self.rt.alloc(), 64) else {
             return Err(Fault::NoMemory);
         };
-        scan(self.rt, index, session, ALL)?;
-        if batch(self.rt, index, session, &mut given)? {
+        session.scan(self.rt, index, ALL)?;
+        if session.batch(self.rt, index, &mut given)? {
             return Ok(());
         }
-        leave_scan(self.rt, index, session)
+        session.leave_scan(self.rt, index)
     }
 
     /// Calls of a session whose device has stopped: an insert, and a commit of it, which is refused. When a
     /// commit was, all that come are.
-    fn are_refused<S: PageStore, T: DeadRows + Drop, J: OriginOn<S>>(
+    fn are_refused<X, K: PlainSession<X>>(
         &self,
-        index: &SharedIndex<S, T, J>,
-        session: &mut SharedSession<J>,
+        index: &X,
+        session: &mut K,
         number: u32,
         told: &mut Told,
     ) -> bool
-        ensures { number_of_seat session.new.seat ≡ number_of_seat session.old.seat }
+        ensures { K.number session.new ≡ K.number session.old }
     {
-        let inserted = insert(self.rt, index, session, entry(last_key(number), 0));
+        let inserted = session.insert(self.rt, index, entry(last_key(number), 0));
         if let Ok(action) = &inserted {
             told.last = Some(*action);
         }
-        let committed = commit(self.rt, index, session);
+        let committed = session.commit(self.rt, index);
         if let Ok(count) = &committed {
             told.durable = *count;
         }
         let has_stopped = committed.is_err();
         let scanned = self.scan_all(index, session);
-        let deleted = bulk_delete(self.rt, index, session, 2);
-        let cleaned = clean_up(self.rt, index, session);
-        let kept = checkpoint(self.rt, index, session);
+        let deleted = session.bulk_delete(self.rt, index, 2);
+        let cleaned = session.clean_up(self.rt, index);
+        let kept = session.checkpoint(self.rt, index);
         is_right(&inserted, false)
             && is_right(&committed, inserted.is_ok())
             && is_right(&scanned, has_stopped)
@@ -144,13 +139,8 @@ impl<'a, R: Wait + Clock + AllocGlobal> Committers<'a, R> {
             && is_right(&kept, has_stopped)
     }
 
-    fn told<S: PageStore, T: DeadRows + Drop, J: OriginOn<S>>(
-        &self,
-        index: &SharedIndex<S, T, J>,
-        session: &mut SharedSession<J>,
-        number: u32,
-    ) -> Told
-        ensures { number_of_seat session.new.seat ≡ number_of_seat session.old.seat }
+    fn told<X, K: PlainSession<X>>(&self, index: &X, session: &mut K, number: u32) -> Told
+        ensures { K.number session.new ≡ K.number session.old }
     {
         let mut told = Told {
             added: [None; EACH],
@@ -239,9 +229,9 @@ fn all_told(
 
 /// What each crash leaves of a world whose threads were told this: the entries after a prefix of the actions
 /// with all that was committed.
-fn leaves_prefix(
+fn leaves_prefix<W: DeviceWorld>(
     rt: &(impl Abort + AllocGlobal + Print + Eprint + Threads + Wait + Sync),
-    world: &InMemory,
+    world: &W,
     told: &AllTold,
     counted: &mut Counted,
 ) -> Result<(), Fail> {

@@ -2,13 +2,12 @@
 //! at random.
 
 ghost use Rattle.std.specs.Prelude.{◌≡◌};
-ghost use Rattle.shared_index.specs.Sessions.{number_of_seat};
 
 use crate::indexes::{InMemory, SETS, all_entries, made};
 use crate::lists::{Dice, entry, range};
 use crate::plain::{ALL, is_left_sound};
 use crate::serving::served;
-use crate::session;
+use crate::session::PlainSession;
 use index_model::{DeadRows, Entry, Fault, Limits, Range};
 use page_action::PageStore;
 use schedule::Event;
@@ -22,6 +21,7 @@ use std::test::{Fail, *};
 use std::thread::Threads;
 use std::time::{Clock, Duration};
 use tests_support::plain::{one, take_step};
+use tests_support::plain_world::PlainWorld;
 
 const LIMITS: Limits = Limits {
     items: 16,
@@ -152,16 +152,16 @@ struct Mixers<'a, R: Wait> {
 
 impl<'a, R: Wait + Clock + AllocGlobal> Mixers<'a, R> {
     /// A scan by batches of so many entries. One by five is left after two of them.
-    fn scan<S: PageStore, T: DeadRows + Drop, J: OriginOn<S>>(
+    fn scan<X, K: PlainSession<X>>(
         &self,
-        index: &SharedIndex<S, T, J>,
-        session: &mut SharedSession<J>,
+        index: &X,
+        session: &mut K,
         number: u16,
         range: &Range,
         size: usize,
         told: &mut Told,
     ) -> Result<(), Fault>
-        ensures { number_of_seat session.new.seat ≡ number_of_seat session.old.seat }
+        ensures { K.number session.new ≡ K.number session.old }
     {
         let mut given = Given {
             last: None,
@@ -171,10 +171,10 @@ impl<'a, R: Wait + Clock + AllocGlobal> Mixers<'a, R> {
         let Ok(mut batch) = Vec::with_capacity(self.rt.alloc(), size) else {
             return Err(Fault::NoMemory);
         };
-        session::scan(self.rt, index, session, *range)?;
+        session.scan(self.rt, index, *range)?;
         for batches in 0..10_000_u32 {
             if size == 5 && batches == 2 {
-                session::leave_scan(self.rt, index, session)?;
+                session.leave_scan(self.rt, index)?;
                 told.left = told.left.saturating_add(1);
                 break;
             }
@@ -194,16 +194,16 @@ impl<'a, R: Wait + Clock + AllocGlobal> Mixers<'a, R> {
     }
 
     /// A batch. One that is blocked is over for now.
-    fn batch<S: PageStore, T: DeadRows + Drop, J: OriginOn<S>>(
+    fn batch<X, K: PlainSession<X>>(
         &self,
-        index: &SharedIndex<S, T, J>,
-        session: &mut SharedSession<J>,
+        index: &X,
+        session: &mut K,
         batch: &mut Vec<Entry>,
         told: &mut Told,
     ) -> Result<bool, Fault>
-        ensures { number_of_seat session.new.seat ≡ number_of_seat session.old.seat }
+        ensures { K.number session.new ≡ K.number session.old }
     {
-        match session::batch(self.rt, index, session, batch) {
+        match session.batch(self.rt, index, batch) {
             Err(Fault::Blocked(_)) => {
                 told.blocked = told.blocked.saturating_add(1);
                 Ok(false)
@@ -213,21 +213,21 @@ impl<'a, R: Wait + Clock + AllocGlobal> Mixers<'a, R> {
     }
 
     /// An insert. If it is blocked, its entry isn't added: it is inserted again, as long as it takes.
-    fn insert<S: PageStore, T: DeadRows + Drop, J: OriginOn<S>>(
+    fn insert<X, K: PlainSession<X>>(
         &self,
-        index: &SharedIndex<S, T, J>,
-        session: &mut SharedSession<J>,
+        index: &X,
+        session: &mut K,
         number: u16,
         place: u16,
         told: &mut Told,
     ) -> Result<(), Fault>
-        ensures { number_of_seat session.new.seat ≡ number_of_seat session.old.seat }
+        ensures { K.number session.new ≡ K.number session.old }
     {
-        let mut inserted = session::insert(self.rt, index, session, entry_of(number, place));
+        let mut inserted = session.insert(self.rt, index, entry_of(number, place));
         if matches!(&inserted, Err(Fault::Blocked(_))) {
             told.blocked = told.blocked.saturating_add(1);
             session.set_patience(None);
-            inserted = session::insert(self.rt, index, session, entry_of(number, place));
+            inserted = session.insert(self.rt, index, entry_of(number, place));
         }
         let _inserted = inserted?;
         told.inserted = told.inserted.saturating_add(1);
@@ -235,17 +235,17 @@ impl<'a, R: Wait + Clock + AllocGlobal> Mixers<'a, R> {
     }
 
     /// A bulk delete by one of the sets: the rows of block 1, or those of block 2.
-    fn delete<S: PageStore, T: DeadRows + Drop, J: OriginOn<S>>(
+    fn delete<X, K: PlainSession<X>>(
         &self,
-        index: &SharedIndex<S, T, J>,
-        session: &mut SharedSession<J>,
+        index: &X,
+        session: &mut K,
         set: u32,
         told: &mut Told,
     ) -> Result<(), Fault>
-        ensures { number_of_seat session.new.seat ≡ number_of_seat session.old.seat }
+        ensures { K.number session.new ≡ K.number session.old }
     {
         let place = if set == 0 { 2 } else { 1 };
-        match session::bulk_delete(self.rt, index, session, place) {
+        match session.bulk_delete(self.rt, index, place) {
             Ok(removed) => {
                 told.removed = told.removed.saturating_add(removed);
                 if let Some(deleted) = told.deleted.get_mut(set as usize) {
@@ -259,15 +259,15 @@ impl<'a, R: Wait + Clock + AllocGlobal> Mixers<'a, R> {
     }
 
     /// A cleanup.
-    fn clean_up<S: PageStore, T: DeadRows + Drop, J: OriginOn<S>>(
+    fn clean_up<X, K: PlainSession<X>>(
         &self,
-        index: &SharedIndex<S, T, J>,
-        session: &mut SharedSession<J>,
+        index: &X,
+        session: &mut K,
         told: &mut Told,
     ) -> Result<(), Fault>
-        ensures { number_of_seat session.new.seat ≡ number_of_seat session.old.seat }
+        ensures { K.number session.new ≡ K.number session.old }
     {
-        match session::clean_up(self.rt, index, session) {
+        match session.clean_up(self.rt, index) {
             Ok(()) => Ok(()),
             Err(Fault::Blocked(_)) | Err(Fault::VacuumRunning) => {
                 told.blocked = told.blocked.saturating_add(1);
@@ -278,15 +278,15 @@ impl<'a, R: Wait + Clock + AllocGlobal> Mixers<'a, R> {
     }
 
     /// A call at random, or none.
-    fn some_call<S: PageStore, T: DeadRows + Drop, J: OriginOn<S>>(
+    fn some_call<X, K: PlainSession<X>>(
         &self,
-        index: &SharedIndex<S, T, J>,
-        session: &mut SharedSession<J>,
+        index: &X,
+        session: &mut K,
         number: u16,
         dice: &mut Dice,
         told: &mut Told,
     ) -> Result<(), Fault>
-        ensures { number_of_seat session.new.seat ≡ number_of_seat session.old.seat }
+        ensures { K.number session.new ≡ K.number session.old }
     {
         let patience = Duration::from_millis(u64::from(dice.roll(3)));
         match dice.roll(60) {
@@ -306,24 +306,24 @@ impl<'a, R: Wait + Clock + AllocGlobal> Mixers<'a, R> {
                 self.clean_up(index, session, told)
             }
             8..=11 => {
-                let _durable = session::commit(self.rt, index, session)?;
+                let _durable = session.commit(self.rt, index)?;
                 Ok(())
             }
             12 => {
-                let _durable = session::checkpoint(self.rt, index, session)?;
+                let _durable = session.checkpoint(self.rt, index)?;
                 Ok(())
             }
             _ => Ok(()),
         }
     }
 
-    fn told<S: PageStore, T: DeadRows + Drop, J: OriginOn<S>>(
+    fn told<X, K: PlainSession<X>>(
         &self,
-        index: &SharedIndex<S, T, J>,
-        session: &mut SharedSession<J>,
+        index: &X,
+        session: &mut K,
         number: u16,
     ) -> Result<Told, Fault>
-        ensures { number_of_seat session.new.seat ≡ number_of_seat session.old.seat }
+        ensures { K.number session.new ≡ K.number session.old }
     {
         let mut told = Told {
             inserted: 0,
@@ -383,7 +383,7 @@ impl Sums {
 }
 
 /// Deletes by a set, with nothing beside it. Answers how many entries that removed.
-fn delete_alone(world: &mut InMemory, set: u32) -> Result<u64, Fail> {
+fn delete_alone<W: PlainWorld>(world: &mut W, set: u32) -> Result<u64, Fail> {
     if let Answer::Refused(fault) = one(world, Event::Bulk(0, set)) {
         return Err(Fail::from(fault));
     }
@@ -424,7 +424,7 @@ struct Found {
     after: Vec<Entry>,
 }
 
-fn found_in(alloc: Global, world: &mut InMemory) -> Result<Found, Fail> {
+fn found_in<W: PlainWorld>(alloc: Global, world: &mut W) -> Result<Found, Fail> {
     let before = all_entries(alloc, world)?;
     let mut removed = 0u64;
     for set in 0..SETS {

@@ -1,13 +1,12 @@
 //! Threads that share an index, each of which deletes rows by sets of its own.
 
 ghost use Rattle.std.specs.Prelude.{◌≡◌};
-ghost use Rattle.shared_index.specs.Sessions.{number_of_seat};
 
 use crate::indexes::{InMemory, SETS, all_entries, made, without_sets};
 use crate::lists::entry;
 use crate::plain::{ALL, is_left_sound};
 use crate::serving::{entries_left, served};
-use crate::session::{Deleted, batch, bulk_delete, commit, delete_rows, insert, leave_scan, scan};
+use crate::session::{Deleted, PlainSession};
 use crate::stages::Stages;
 use index_model::{Entry, Fault, Limits};
 use page_action::PageStore;
@@ -75,52 +74,52 @@ struct Deleters<'a, R: Wait> {
 impl<'a, R: Wait + Clock> Deleters<'a, R> {
     /// Deletes the rows of the thread's own block. Answers how many that removed, and whose set stood at the
     /// spare place before.
-    fn delete<S: PageStore, J: OriginOn<S>>(
+    fn delete<X, K: PlainSession<X, Rows = Blocks>>(
         &self,
-        index: &SharedIndex<S, Blocks, J>,
-        session: &mut SharedSession<J>,
+        index: &X,
+        session: &mut K,
         number: u16,
     ) -> Result<(u64, u32), Fault>
-        ensures { number_of_seat session.new.seat ≡ number_of_seat session.old.seat }
+        ensures { K.number session.new ≡ K.number session.old }
     {
         let set = rows_of(u32::from(number).saturating_add(100));
-        match delete_rows(self.rt, index, session, set) {
+        match session.delete_rows(self.rt, index, set) {
             Ok((removed, was)) => Ok((removed?, was.from)),
             Err((fault, _)) => Err(fault),
         }
     }
 
     /// Whether a set is refused while a scan is open, and a bulk delete by the spare place.
-    fn refuses<S: PageStore, J: OriginOn<S>>(
+    fn refuses<X, K: PlainSession<X, Rows = Blocks>>(
         &self,
-        index: &SharedIndex<S, Blocks, J>,
-        session: &mut SharedSession<J>,
+        index: &X,
+        session: &mut K,
     ) -> Result<bool, Fault>
-        ensures { number_of_seat session.new.seat ≡ number_of_seat session.old.seat }
+        ensures { K.number session.new ≡ K.number session.old }
     {
-        let spare = bulk_delete(self.rt, index, session, 0);
-        let beyond = bulk_delete(self.rt, index, session, SETS);
-        scan(self.rt, index, session, ALL)?;
-        let busy = delete_rows(self.rt, index, session, rows_of(8));
-        leave_scan(self.rt, index, session)?;
+        let spare = session.bulk_delete(self.rt, index, 0);
+        let beyond = session.bulk_delete(self.rt, index, SETS);
+        session.scan(self.rt, index, ALL)?;
+        let busy = session.delete_rows(self.rt, index, rows_of(8));
+        session.leave_scan(self.rt, index)?;
         let none = matches!(spare, Err(Fault::NoSession))
             && matches!(beyond, Err(Fault::NoSession));
         Ok(none && is_refused(&busy, Fault::SessionBusy, 8))
     }
 
     /// How many entries its deletes removed, and whether all was right.
-    fn told<S: PageStore, J: OriginOn<S>>(
+    fn told<X, K: PlainSession<X, Rows = Blocks>>(
         &self,
-        index: &SharedIndex<S, Blocks, J>,
-        session: &mut SharedSession<J>,
+        index: &X,
+        session: &mut K,
         number: u16,
     ) -> Result<(u64, bool), Fault>
-        ensures { number_of_seat session.new.seat ≡ number_of_seat session.old.seat }
+        ensures { K.number session.new ≡ K.number session.old }
     {
         let mut removed = 0u64;
         let mut is_right = self.refuses(index, session)?;
         for place in 0..EACH {
-            insert(self.rt, index, session, entry_of(number, place))?;
+            session.insert(self.rt, index, entry_of(number, place))?;
             if place % PART == PART.wrapping_sub(1) {
                 let (count, was) = self.delete(index, session, number)?;
                 removed = removed.saturating_add(count);
@@ -129,7 +128,7 @@ impl<'a, R: Wait + Clock> Deleters<'a, R> {
                 is_right = is_right && count == expected && was_known;
             }
         }
-        let _durable = commit(self.rt, index, session)?;
+        let _durable = session.commit(self.rt, index)?;
         Ok((removed, is_right))
     }
 }
@@ -185,53 +184,53 @@ struct Waiters<'a, R: Wait> {
 impl<'a, R: Wait + Clock + AllocGlobal> Waiters<'a, R> {
     /// Inserts three entries, of which block 100 has two, and scans them: one, then the others after the
     /// third stage. The last batch gives none: it only ends the scan, for which the bulk delete waits.
-    fn read<S: PageStore, J: OriginOn<S>>(
+    fn read<X, K: PlainSession<X, Rows = Blocks>>(
         &self,
-        index: &SharedIndex<S, Blocks, J>,
-        session: &mut SharedSession<J>,
+        index: &X,
+        session: &mut K,
     ) -> Result<bool, Fault>
-        ensures { number_of_seat session.new.seat ≡ number_of_seat session.old.seat }
+        ensures { K.number session.new ≡ K.number session.old }
     {
         for number in 0..3_u16 {
             let block = if number == 1 { 9 } else { 100 };
-            insert(self.rt, index, session, entry(number, block))?;
+            session.insert(self.rt, index, entry(number, block))?;
         }
-        scan(self.rt, index, session, ALL)?;
+        session.scan(self.rt, index, ALL)?;
         let Ok(mut first) = Vec::with_capacity(self.rt.alloc(), 1) else {
             return Err(Fault::NoMemory);
         };
         let Ok(mut rest) = Vec::with_capacity(self.rt.alloc(), 2) else {
             return Err(Fault::NoMemory);
         };
-        let is_over = batch(self.rt, index, session, &mut first)?;
+        let is_over = session.batch(self.rt, index, &mut first)?;
         self.stages.reach(self.rt, 1);
         let waited = self.stages.wait_for(self.rt, 3);
-        let is_over_then = batch(self.rt, index, session, &mut rest)?;
+        let is_over_then = session.batch(self.rt, index, &mut rest)?;
         let count = rest.len();
         rest.clear();
-        let is_over_last = batch(self.rt, index, session, &mut rest)?;
+        let is_over_last = session.batch(self.rt, index, &mut rest)?;
         waited?;
         Ok(!is_over && !is_over_then && count == 2 && is_over_last && rest.is_empty())
     }
 
     /// Deletes the rows of block 100 beside the scan: it is blocked at once, with its set put. Then it waits
     /// until the scan has gone on.
-    fn delete<S: PageStore, J: OriginOn<S>>(
+    fn delete<X, K: PlainSession<X, Rows = Blocks>>(
         &self,
-        index: &SharedIndex<S, Blocks, J>,
-        session: &mut SharedSession<J>,
+        index: &X,
+        session: &mut K,
     ) -> Result<bool, Fault>
-        ensures { number_of_seat session.new.seat ≡ number_of_seat session.old.seat }
+        ensures { K.number session.new ≡ K.number session.old }
     {
         self.stages.wait_for(self.rt, 1)?;
         session.set_patience(Some(Duration::ZERO));
-        let is_blocked = match delete_rows(self.rt, index, session, rows_of(100)) {
+        let is_blocked = match session.delete_rows(self.rt, index, rows_of(100)) {
             Ok((removed, was)) => removed == Err(Fault::Blocked(1)) && was.from == 1,
             Err(_) => false,
         };
         self.stages.reach(self.rt, 2);
         session.set_patience(None);
-        match delete_rows(self.rt, index, session, rows_of(100)) {
+        match session.delete_rows(self.rt, index, rows_of(100)) {
             Ok((removed, _)) => Ok(is_blocked && removed? == 2),
             Err((fault, _)) => Err(fault),
         }
@@ -239,18 +238,18 @@ impl<'a, R: Wait + Clock + AllocGlobal> Waiters<'a, R> {
 
     /// Brings a set while the bulk delete runs: it is refused at last, and given back. It may be sooner than
     /// that.
-    fn bring<S: PageStore, J: OriginOn<S>>(
+    fn bring<X, K: PlainSession<X, Rows = Blocks>>(
         &self,
-        index: &SharedIndex<S, Blocks, J>,
-        session: &mut SharedSession<J>,
+        index: &X,
+        session: &mut K,
     ) -> Result<bool, Fault>
-        ensures { number_of_seat session.new.seat ≡ number_of_seat session.old.seat }
+        ensures { K.number session.new ≡ K.number session.old }
     {
         self.stages.wait_for(self.rt, 2)?;
         session.set_patience(Some(Duration::ZERO));
         let mut is_excluded = false;
         for _ in 0..10_000_000_u32 {
-            let brought = delete_rows(self.rt, index, session, rows_of(5));
+            let brought = session.delete_rows(self.rt, index, rows_of(5));
             if is_refused(&brought, Fault::VacuumRunning, 5) {
                 is_excluded = true;
                 break;
@@ -312,6 +311,15 @@ struct Bringer<'a, R: Wait> {
     rt: &'a R,
 }
 
+impl<'a, R: Wait + Clock> Bringer<'a, R> {
+    fn is_refused<X, K: PlainSession<X, Rows = Blocks>>(&self, index: &X, session: &mut K) -> bool
+        ensures { K.number session.new ≡ K.number session.old }
+    {
+        let brought = session.delete_rows(self.rt, index, rows_of(7));
+        is_refused(&brought, Fault::NoSession, 7)
+    }
+}
+
 impl<'a, S: PageStore, R: Wait + Clock> Client<S, Blocks> for Bringer<'a, R> {
     type Out = bool;
 
@@ -323,8 +331,7 @@ impl<'a, S: PageStore, R: Wait + Clock> Client<S, Blocks> for Bringer<'a, R> {
         session: &mut SharedSession<J>,
         _number: u32,
     ) -> bool {
-        let brought = delete_rows(self.rt, index, session, rows_of(7));
-        is_refused(&brought, Fault::NoSession, 7)
+        self.is_refused(index, session)
     }
 }
 

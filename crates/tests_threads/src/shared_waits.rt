@@ -1,15 +1,14 @@
 //! Sessions of threads that share an index, and wait for each other: with patience, and without a limit.
 
 ghost use Rattle.std.specs.Prelude.{◌≡◌};
-ghost use Rattle.shared_index.specs.Sessions.{number_of_seat};
 
 use crate::indexes::{InMemory, all_entries, made};
 use crate::lists::entry;
 use crate::plain::{ALL, abandon};
 use crate::serving::{entries_left, served};
-use crate::session::{batch, bulk_delete, clean_up, insert, scan};
+use crate::session::PlainSession;
 use crate::stages::Stages;
-use index_model::{DeadRows, Entry, Fault, Limits};
+use index_model::{DeadRows, Fault, Limits};
 use page_action::PageStore;
 use session_calls::Answer;
 use shared_index::{Client, SharedIndex, SharedSession};
@@ -20,6 +19,7 @@ use std::sync::Wait;
 use std::test::{Fail, *};
 use std::thread::Threads;
 use std::time::{Clock, Duration, Instant};
+use tests_support::plain_world::PlainWorld;
 
 /// All entries are in one leaf, which is block 1.
 const LIMITS: Limits = Limits {
@@ -60,28 +60,24 @@ impl<'a, R: Wait + Clock + AllocGlobal> Waiters<'a, R> {
 
     /// Inserts three entries, of which the set has two, and scans them: one, then the others after the third
     /// stage.
-    fn read<S: PageStore, T: DeadRows + Drop, J: OriginOn<S>>(
-        &self,
-        index: &SharedIndex<S, T, J>,
-        session: &mut SharedSession<J>,
-    ) -> Result<bool, Fault>
-        ensures { number_of_seat session.new.seat ≡ number_of_seat session.old.seat }
+    fn read<X, K: PlainSession<X>>(&self, index: &X, session: &mut K) -> Result<bool, Fault>
+        ensures { K.number session.new ≡ K.number session.old }
     {
         for number in 0..3_u16 {
             let block = if number == 1 { 9 } else { 1 };
-            insert(self.rt, index, session, entry(number, block))?;
+            session.insert(self.rt, index, entry(number, block))?;
         }
-        scan(self.rt, index, session, ALL)?;
+        session.scan(self.rt, index, ALL)?;
         let Ok(mut first) = Vec::with_capacity(self.rt.alloc(), 1) else {
             return Err(Fault::NoMemory);
         };
         let Ok(mut rest) = Vec::with_capacity(self.rt.alloc(), 10) else {
             return Err(Fault::NoMemory);
         };
-        let is_over = batch(self.rt, index, session, &mut first)?;
+        let is_over = session.batch(self.rt, index, &mut first)?;
         self.stages.reach(self.rt, 1);
         let waited = self.stages.wait_for(self.rt, 3);
-        let is_over_then = batch(self.rt, index, session, &mut rest)?;
+        let is_over_then = session.batch(self.rt, index, &mut rest)?;
         waited?;
         Ok(
             !is_over
@@ -92,26 +88,22 @@ impl<'a, R: Wait + Clock + AllocGlobal> Waiters<'a, R> {
     }
 
     /// A bulk delete with this patience, in the middle of the scan: whether it was blocked.
-    fn is_blocked<S: PageStore, T: DeadRows + Drop, J: OriginOn<S>>(
+    fn is_blocked<X, K: PlainSession<X>>(
         &self,
-        index: &SharedIndex<S, T, J>,
-        session: &mut SharedSession<J>,
+        index: &X,
+        session: &mut K,
         patience: Duration,
     ) -> bool
-        ensures { number_of_seat session.new.seat ≡ number_of_seat session.old.seat }
+        ensures { K.number session.new ≡ K.number session.old }
     {
         session.set_patience(Some(patience));
-        bulk_delete(self.rt, index, session, 2) == Err(Fault::Blocked(1))
+        session.bulk_delete(self.rt, index, 2) == Err(Fault::Blocked(1))
     }
 
     /// Deletes by the set beside the scan: it is blocked at once, then after a while, and at last it waits
     /// until the scan has gone on.
-    fn delete<S: PageStore, T: DeadRows + Drop, J: OriginOn<S>>(
-        &self,
-        index: &SharedIndex<S, T, J>,
-        session: &mut SharedSession<J>,
-    ) -> Result<bool, Fault>
-        ensures { number_of_seat session.new.seat ≡ number_of_seat session.old.seat }
+    fn delete<X, K: PlainSession<X>>(&self, index: &X, session: &mut K) -> Result<bool, Fault>
+        ensures { K.number session.new ≡ K.number session.old }
     {
         self.stages.wait_for(self.rt, 1)?;
         let is_blocked = self.is_blocked(index, session, Duration::ZERO);
@@ -120,21 +112,17 @@ impl<'a, R: Wait + Clock + AllocGlobal> Waiters<'a, R> {
         let has_waited = self.has_waited(since);
         self.stages.reach(self.rt, 2);
         session.set_patience(None);
-        let removed = bulk_delete(self.rt, index, session, 2)?;
+        let removed = session.bulk_delete(self.rt, index, 2)?;
         Ok(is_blocked && is_blocked_later && has_waited && removed == 2)
     }
 
     /// Whether a cleanup is refused since the bulk delete runs. It may be sooner than that.
-    fn is_excluded<S: PageStore, T: DeadRows + Drop, J: OriginOn<S>>(
-        &self,
-        index: &SharedIndex<S, T, J>,
-        session: &mut SharedSession<J>,
-    ) -> bool
-        ensures { number_of_seat session.new.seat ≡ number_of_seat session.old.seat }
+    fn is_excluded<X, K: PlainSession<X>>(&self, index: &X, session: &mut K) -> bool
+        ensures { K.number session.new ≡ K.number session.old }
     {
         session.set_patience(Some(Duration::ZERO));
         for _ in 0..10_000_000_u32 {
-            if clean_up(self.rt, index, session) == Err(Fault::VacuumRunning) {
+            if session.clean_up(self.rt, index) == Err(Fault::VacuumRunning) {
                 return true;
             }
         }
@@ -143,23 +131,19 @@ impl<'a, R: Wait + Clock + AllocGlobal> Waiters<'a, R> {
 
     /// Cleans up beside the bulk delete: it is refused at once, then after a while, and at last it waits
     /// until that is over.
-    fn clean_up<S: PageStore, T: DeadRows + Drop, J: OriginOn<S>>(
-        &self,
-        index: &SharedIndex<S, T, J>,
-        session: &mut SharedSession<J>,
-    ) -> Result<bool, Fault>
-        ensures { number_of_seat session.new.seat ≡ number_of_seat session.old.seat }
+    fn clean_up<X, K: PlainSession<X>>(&self, index: &X, session: &mut K) -> Result<bool, Fault>
+        ensures { K.number session.new ≡ K.number session.old }
     {
         self.stages.wait_for(self.rt, 2)?;
         let is_excluded = self.is_excluded(index, session);
         let since = self.now()?;
         session.set_patience(Some(patience()));
-        let cleaned = clean_up(self.rt, index, session);
+        let cleaned = session.clean_up(self.rt, index);
         let is_excluded_later = cleaned == Err(Fault::VacuumRunning);
         let has_waited = self.has_waited(since);
         self.stages.reach(self.rt, 3);
         session.set_patience(None);
-        clean_up(self.rt, index, session)?;
+        session.clean_up(self.rt, index)?;
         Ok(is_excluded && is_excluded_later && has_waited)
     }
 }
@@ -211,26 +195,26 @@ struct Loser<'a, R: Wait> {
 }
 
 impl<'a, R: Wait + Clock + AllocGlobal> Loser<'a, R> {
-    fn given<S: PageStore, T: DeadRows + Drop, J: OriginOn<S>>(
+    fn given<X, K: PlainSession<X>>(
         &self,
-        index: &SharedIndex<S, T, J>,
-        session: &mut SharedSession<J>,
+        index: &X,
+        session: &mut K,
         number: u32,
     ) -> Result<usize, Fault>
-        ensures { number_of_seat session.new.seat ≡ number_of_seat session.old.seat }
+        ensures { K.number session.new ≡ K.number session.old }
     {
         let first = u16::try_from(number).unwrap_or(0).wrapping_mul(60);
         for place in 0..60_u16 {
-            insert(self.rt, index, session, entry(first.wrapping_add(place), 9))?;
+            session.insert(self.rt, index, entry(first.wrapping_add(place), 9))?;
         }
         if number > 0 {
             return Ok(0);
         }
-        scan(self.rt, index, session, ALL)?;
+        session.scan(self.rt, index, ALL)?;
         let Ok(mut given) = Vec::with_capacity(self.rt.alloc(), 5) else {
             return Err(Fault::NoMemory);
         };
-        let _is_over = batch(self.rt, index, session, &mut given)?;
+        let _is_over = session.batch(self.rt, index, &mut given)?;
         Ok(given.len())
     }
 }
@@ -252,7 +236,7 @@ impl<'a, S: PageStore, T: DeadRows + Drop, R: Wait + Clock + AllocGlobal> Client
 }
 
 /// How many entries a world has, once the scan of session 0 was given up.
-fn count_without_scan(alloc: Global, world: &mut InMemory) -> Result<usize, Fail> {
+fn count_without_scan<W: PlainWorld>(alloc: Global, world: &mut W) -> Result<usize, Fail> {
     if world.is_running(1) || world.is_running(2) || !world.is_running(0) {
         return Err(Fail::from(Fault::SessionBusy));
     }

@@ -1,0 +1,98 @@
+//! An index of one user of which a test sees the answers alone.
+
+use access_method::{Index, IndexInfo, Inserted, RowSet, ScanToken};
+use index_model::{DeadRows, Entry, Fault, Range, VacuumStats};
+use page_action::PageStore;
+
+/// An index of one user of which a test sees the answers alone, as of a
+/// [`PlainStore`](crate::plain_store::PlainStore).
+pub trait PlainIndex {
+    fn insert(&mut self, entry: Entry) -> Result<Inserted, Fault>;
+
+    fn commit(&mut self) -> Result<u64, Fault>;
+
+    fn checkpoint(&mut self) -> Result<u64, Fault>;
+
+    fn info(&self) -> IndexInfo;
+
+    fn begin_scan(&mut self, range: Range) -> Result<ScanToken, Fault>;
+
+    fn rescan(&mut self, token: ScanToken, range: Range) -> Result<(), Fault>;
+
+    /// The next entry of a scan, or None at its end.
+    fn next(&mut self, token: ScanToken) -> Result<Option<Entry>, Fault>;
+
+    fn end_scan(&mut self, token: ScanToken) -> Result<(), Fault>;
+
+    fn bulk_delete<T: DeadRows>(&mut self, dead: &T) -> Result<VacuumStats, Fault>;
+
+    fn clean_up(&mut self) -> Result<VacuumStats, Fault>;
+
+    fn begin_bulk_delete(&mut self, rows: RowSet) -> Result<(), Fault>;
+
+    fn begin_cleanup(&mut self) -> Result<(), Fault>;
+
+    /// So many steps more of the bulk delete or cleanup that goes on in parts.
+    fn vacuum(&mut self, steps: u32) -> Result<Option<VacuumStats>, Fault>;
+
+    /// Ends it, and hands its rows out.
+    fn end_vacuum(&mut self) -> Result<RowSet, Fault>;
+}
+
+impl<S: PageStore> PlainIndex for Index<S> {
+    fn insert(&mut self, entry: Entry) -> Result<Inserted, Fault> {
+        self.aminsert(entry)
+    }
+
+    fn commit(&mut self) -> Result<u64, Fault> {
+        Index::commit(self)
+    }
+
+    fn checkpoint(&mut self) -> Result<u64, Fault> {
+        Index::checkpoint(self)
+    }
+
+    fn info(&self) -> IndexInfo {
+        Index::info(self)
+    }
+
+    fn begin_scan(&mut self, range: Range) -> Result<ScanToken, Fault> {
+        self.ambeginscan(range)
+    }
+
+    fn rescan(&mut self, token: ScanToken, range: Range) -> Result<(), Fault> {
+        self.amrescan(token, range)
+    }
+
+    fn next(&mut self, token: ScanToken) -> Result<Option<Entry>, Fault> {
+        self.amgettuple(token)
+    }
+
+    fn end_scan(&mut self, token: ScanToken) -> Result<(), Fault> {
+        self.amendscan(token)
+    }
+
+    fn bulk_delete<T: DeadRows>(&mut self, dead: &T) -> Result<VacuumStats, Fault> {
+        self.ambulkdelete(dead)
+    }
+
+    fn clean_up(&mut self) -> Result<VacuumStats, Fault> {
+        self.amvacuumcleanup()
+    }
+
+    fn begin_bulk_delete(&mut self, rows: RowSet) -> Result<(), Fault> {
+        Index::begin_bulk_delete(self, rows)
+    }
+
+    fn begin_cleanup(&mut self) -> Result<(), Fault> {
+        Index::begin_cleanup(self)
+    }
+
+    fn vacuum(&mut self, steps: u32) -> Result<Option<VacuumStats>, Fault> {
+        Index::vacuum(self, steps)
+    }
+
+    fn end_vacuum(&mut self) -> Result<RowSet, Fault> {
+        Index::end_vacuum(self)
+    }
+}
