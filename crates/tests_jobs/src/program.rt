@@ -2,7 +2,6 @@
 
 mod help_of_run;
 mod jobs;
-mod many_jobs;
 mod progress;
 mod unique;
 
@@ -29,7 +28,7 @@ fn has_printed(
 }
 
 /// Runs the program on a script, and compares all that it prints.
-fn runs(
+pub fn runs(
     rt: &(impl Abort + AllocGlobal + Print + Eprint + Files<File = File> + Threads + Wait + Sync),
     words: &[&str],
     script: &str,
@@ -42,18 +41,18 @@ fn runs(
 }
 
 /// Removes a file, if it is there.
-fn clear(rt: &impl Files<File = File>, path: &str) {
+pub fn clear(rt: &impl Files<File = File>, path: &str) {
     let _ = fs::remove_file(rt, path);
 }
 
 /// Removes a file, which is there.
-fn remove(rt: &impl Files<File = File>, path: &str) -> Result<(), Fail> {
+pub fn remove(rt: &impl Files<File = File>, path: &str) -> Result<(), Fail> {
     fs::remove_file(rt, path)?;
     Ok(())
 }
 
 /// Writes a file.
-fn write(rt: &impl Files<File = File>, path: &str, lines: &str) -> Result<(), Fail> {
+pub fn write(rt: &impl Files<File = File>, path: &str, lines: &str) -> Result<(), Fail> {
     fs::write(rt, path, lines)?;
     Ok(())
 }
