@@ -9,7 +9,7 @@ ghost use Rattle.nardsill.specs.Meanings.{AnswersFault, Tells, AnswersPartOfComm
 
 use crate::answer::{CallAnswer, DONE, counted, refused, unfinished};
 use crate::ask::Ask;
-use crate::handle::{Handle, InFile};
+use crate::handle::Handle;
 use access_method::{Index, RowSet, ScanToken};
 use device::{Device, FileDevice, Syncer, Unknown};
 use index_model::{Fault, VacuumStats};
@@ -58,14 +58,14 @@ fn sync(syncer: &Option<Syncer>) -> CallAnswer
 }
 
 // A call of an index that is open.
-fn call(
+fn call<D: Device>(
     alloc: Global,
-    index: &mut InFile,
+    index: &mut Index<Store<D>>,
     dead: &mut RowSet,
     spent: &mut RowSet,
     ask: &Ask,
 ) -> CallAnswer
-    ensures { ServesCall ⟦<Store<FileDevice<Unknown>> as PageStore>⟧ ask.now result
+    ensures { ServesCall ⟦<Store<D> as PageStore>⟧ ask.now result
         index.old index.new dead.old dead.new spent.old spent.new }
 {
     match ask.what {
