@@ -233,7 +233,7 @@ fn verify_on<D: Drop, M: Medium<D>>(alloc: Global, device: D) -> Result<Report, 
             let mut store = store;
             parents(alloc, &mut store)
         }
-        Err((fault, _)) => Err(CheckFault::Refused(fault)),
+        Err((fault, _device)) => Err(CheckFault::Refused(fault)),
     }
 }
 

@@ -15,7 +15,7 @@ use tests_support::small::{LEN, LIMITS, limits, made_with, marked};
 fn opened<M: MemoryMedium>(alloc: Global, device: MemDevice) -> Result<M::Store, Fault> {
     match M::store(alloc, device, 16) {
         Ok(store) => Ok(store),
-        Err((fault, _)) => Err(fault),
+        Err((fault, _device)) => Err(fault),
     }
 }
 

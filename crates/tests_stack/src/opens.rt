@@ -104,7 +104,7 @@ const IMAGES: [CrashImage; 3] = [CrashImage::Drop, CrashImage::Keep, CrashImage:
 fn refusal_in<M: MemoryMedium>(alloc: Global, device: MemDevice, frames: u32) -> u8 {
     match M::store(alloc, device, frames) {
         Ok(_) => 0,
-        Err((fault, _)) => fault.number(),
+        Err((fault, _device)) => fault.number(),
     }
 }
 
@@ -120,7 +120,7 @@ fn opened<M: MemoryMedium>(
 ) -> Result<M::Store, Fault> {
     match M::store(alloc, device, frames) {
         Ok(store) => Ok(store),
-        Err((fault, _)) => Err(fault),
+        Err((fault, _device)) => Err(fault),
     }
 }
 

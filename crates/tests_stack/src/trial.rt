@@ -292,7 +292,7 @@ fn opens_again<D: Drop, M: Medium<D>>(
             let mut store = store;
             is_found_again(alloc, &mut store, entries)
         }
-        Err((fault, _)) => matches!(fault, Fault::PageDamaged(block) if block > used),
+        Err((fault, _device)) => matches!(fault, Fault::PageDamaged(block) if block > used),
     }
 }
 
@@ -344,7 +344,7 @@ fn tried_in<D: Drop, M: Medium<D>>(alloc: Global, store: M::Store) -> Outcome {
 fn tried_by<D: Drop, M: Medium<D>>(alloc: Global, device: D) -> Outcome {
     match M::store(alloc, device, FRAMES) {
         Ok(store) => tried_in::<D, M>(alloc, store),
-        Err((fault, _)) => {
+        Err((fault, _device)) => {
             if is_open_fault(fault) {
                 Outcome::NotOpened
             } else {
