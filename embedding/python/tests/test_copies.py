@@ -85,6 +85,8 @@ class Copies(Room):
     def test_a_signal_gives_it_up(self):
         index = self.opened()
         filled(index, 5000)
+        # A shell's job in the background begins with this signal ignored.
+        self.addCleanup(signal.signal, signal.SIGINT, signal.signal(signal.SIGINT, signal.default_int_handler))
 
         def interrupts(count):
             signal.raise_signal(signal.SIGINT)
