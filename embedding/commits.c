@@ -666,7 +666,7 @@ static nardsill *made_wide(void) {
 /* The syncs of so many threads, by 100 commits. Other work on the machine may part them: the best of some runs counts. */
 static void shared(unsigned threads, unsigned count, unsigned rests, unsigned most) {
     unsigned best = 1000;
-    for (int i = 0; i < 6 && best > most; i++) {
+    for (int i = 0; i < 12 && best > most; i++) {
         nardsill *index = made_wide();
         syncs = 0;
         HOLDS(run(index, threads, count, rests) >= threads * count);
