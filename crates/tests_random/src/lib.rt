@@ -13,17 +13,25 @@ mod failed_calls;
 #[cfg(test)]
 mod failing;
 #[cfg(test)]
+mod few_frames;
+#[cfg(test)]
 mod gates;
 #[cfg(test)]
 mod judge;
 #[cfg(test)]
 mod pages;
 #[cfg(test)]
+mod pairs;
+#[cfg(test)]
+mod past;
+#[cfg(test)]
 mod reopening;
 #[cfg(test)]
 mod runs;
 #[cfg(test)]
 mod scripts;
+#[cfg(test)]
+mod stores;
 #[cfg(test)]
 mod tally;
 #[cfg(test)]

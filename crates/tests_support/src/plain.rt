@@ -4,14 +4,13 @@
 use crate::plain_index::PlainIndex;
 use crate::plain_store::PlainStore;
 use crate::plain_world::{DeviceWorld, PlainWorld};
-use access_method::{Index, Inserted, RowSet, ScanToken};
+use access_method::{Index, Inserted, ScanToken};
 use device::{CrashImage, Device, MemDevice};
 use index_model::{DeadRows, Entry, Fault, Limits, Range, VacuumStats};
 use page_action::PageStore;
 use page_codec::Page;
 use page_store::Store;
 use recovery::Refused;
-use redo_log::Advance;
 use schedule::Event;
 use session_calls::Answer;
 use std::alloc::Global;
@@ -65,10 +64,6 @@ pub fn left_of(
     store.crash(alloc, image)
 }
 
-pub fn device_of<D: Device>(store: Store<D>) -> D {
-    store.into_device()
-}
-
 /// Changes these pages at once; `PageDamaged` if a store would not take them.
 pub fn act<S: PlainStore>(store: &mut S, pages: &[Page]) -> Result<u64, Fault> {
     store.act(pages)
@@ -118,14 +113,6 @@ pub fn one<W: PlainWorld>(world: &mut W, event: Event) -> Answer {
     world.one(event)
 }
 
-pub fn run<W: PlainWorld>(
-    world: &mut W,
-    events: &[Event],
-    answers: &mut Vec<Answer>,
-) -> Result<(), Fault> {
-    world.run(events, answers)
-}
-
 /// Room for so many images: if there is less, a checkpoint.
 fn make_room<W: PlainWorld>(world: &mut W, least_room: u32) -> Result<(), Fault> {
     if world.room() >= least_room {
@@ -141,18 +128,6 @@ fn make_room<W: PlainWorld>(world: &mut W, least_room: u32) -> Result<(), Fault>
 fn step<W: PlainWorld>(world: &mut W, session: u32, least_room: u32) -> Result<Answer, Fault> {
     make_room(world, least_room)?;
     Ok(world.one(Event::Step(session)))
-}
-
-/// Puts another set of dead rows at this place, and answers the one that was there.
-pub fn put_set<S: PageStore, T: DeadRows + Drop>(
-    world: &mut World<S, T>,
-    at: u32,
-    set: T,
-) -> Result<T, Fault> {
-    match world.put_set(at, set) {
-        Ok(was) => Ok(was),
-        Err(not_put) => Err(not_put.fault),
-    }
 }
 
 /// A step of a session's call, with the checkpoint that may go before it.
@@ -186,44 +161,6 @@ pub fn put<W: PlainWorld>(
         Answer::Refused(fault) => Err(fault),
         _ => finish(world, session, least_room),
     }
-}
-
-/// The next entry that a session's scan has ready; if none is, a step of it.
-fn advance<W: PlainWorld>(world: &mut W, session: u32, least_room: u32) -> Result<Answer, Fault> {
-    match world.one(Event::Next(session)) {
-        Answer::Gave(None) => step(world, session, least_room),
-        answer => Ok(answer),
-    }
-}
-
-/// The next entry of a session's scan, or None at its end.
-fn seek<W: PlainWorld>(
-    world: &mut W,
-    session: u32,
-    least_room: u32,
-) -> Result<Option<Entry>, Fault> {
-    for _ in 0..LIMIT {
-        match advance(world, session, least_room)? {
-            Answer::Going | Answer::Ready(_) => {}
-            Answer::Gave(given) => return Ok(given),
-            Answer::Refused(fault) => return Err(fault),
-            _ => return Ok(None),
-        }
-    }
-    Err(Fault::PageDamaged(0))
-}
-
-/// The next entry of a session's scan, or None at its end. The scan is given up then, and if it is refused.
-pub fn give<W: PlainWorld>(
-    world: &mut W,
-    session: u32,
-    least_room: u32,
-) -> Result<Option<Entry>, Fault> {
-    let given = seek(world, session, least_room);
-    if !matches!(given, Ok(Some(_))) {
-        world.abandon(session);
-    }
-    given
 }
 
 /// The page of a block of a world.
@@ -278,11 +215,6 @@ pub fn commit<I: PlainIndex>(index: &mut I) -> Result<u64, Fault> {
     index.commit()
 }
 
-/// The next part of a commit of an index.
-pub fn advance_commit<D: Device>(index: &mut Index<Store<D>>) -> Result<Advance, Fault> {
-    index.advance_commit()
-}
-
 /// A checkpoint of an index.
 pub fn checkpoint_of<I: PlainIndex>(index: &mut I) -> Result<u64, Fault> {
     index.checkpoint()
@@ -313,27 +245,4 @@ pub fn bulk_delete<I: PlainIndex, T: DeadRows>(
 
 pub fn clean_up<I: PlainIndex>(index: &mut I) -> Result<VacuumStats, Fault> {
     index.clean_up()
-}
-
-pub fn begin_bulk_delete<I: PlainIndex>(index: &mut I, rows: RowSet) -> Result<(), Fault> {
-    index.begin_bulk_delete(rows)
-}
-
-pub fn begin_cleanup<I: PlainIndex>(index: &mut I) -> Result<(), Fault> {
-    index.begin_cleanup()
-}
-
-/// So many steps more of the bulk delete or cleanup that goes on in parts.
-pub fn vacuum<I: PlainIndex>(index: &mut I, steps: u32) -> Result<Option<VacuumStats>, Fault> {
-    index.vacuum(steps)
-}
-
-/// Ends it, and hands its rows out.
-pub fn end_with_rows<I: PlainIndex>(index: &mut I) -> Result<RowSet, Fault> {
-    index.end_vacuum()
-}
-
-pub fn end_vacuum<I: PlainIndex>(index: &mut I) -> Result<(), Fault> {
-    let _rows = end_with_rows(index)?;
-    Ok(())
 }

@@ -1,6 +1,6 @@
 //! An index of one user of which a test sees the answers alone.
 
-use access_method::{Index, IndexInfo, Inserted, RowSet, ScanToken};
+use access_method::{Index, Inserted, ScanToken};
 use index_model::{DeadRows, Entry, Fault, Range, VacuumStats};
 use page_action::PageStore;
 
@@ -12,8 +12,6 @@ pub trait PlainIndex {
     fn commit(&mut self) -> Result<u64, Fault>;
 
     fn checkpoint(&mut self) -> Result<u64, Fault>;
-
-    fn info(&self) -> IndexInfo;
 
     fn begin_scan(&mut self, range: Range) -> Result<ScanToken, Fault>;
 
@@ -27,16 +25,6 @@ pub trait PlainIndex {
     fn bulk_delete<T: DeadRows>(&mut self, dead: &T) -> Result<VacuumStats, Fault>;
 
     fn clean_up(&mut self) -> Result<VacuumStats, Fault>;
-
-    fn begin_bulk_delete(&mut self, rows: RowSet) -> Result<(), Fault>;
-
-    fn begin_cleanup(&mut self) -> Result<(), Fault>;
-
-    /// So many steps more of the bulk delete or cleanup that goes on in parts.
-    fn vacuum(&mut self, steps: u32) -> Result<Option<VacuumStats>, Fault>;
-
-    /// Ends it, and hands its rows out.
-    fn end_vacuum(&mut self) -> Result<RowSet, Fault>;
 }
 
 impl<S: PageStore> PlainIndex for Index<S> {
@@ -50,10 +38,6 @@ impl<S: PageStore> PlainIndex for Index<S> {
 
     fn checkpoint(&mut self) -> Result<u64, Fault> {
         Index::checkpoint(self)
-    }
-
-    fn info(&self) -> IndexInfo {
-        Index::info(self)
     }
 
     fn begin_scan(&mut self, range: Range) -> Result<ScanToken, Fault> {
@@ -78,21 +62,5 @@ impl<S: PageStore> PlainIndex for Index<S> {
 
     fn clean_up(&mut self) -> Result<VacuumStats, Fault> {
         self.amvacuumcleanup()
-    }
-
-    fn begin_bulk_delete(&mut self, rows: RowSet) -> Result<(), Fault> {
-        Index::begin_bulk_delete(self, rows)
-    }
-
-    fn begin_cleanup(&mut self) -> Result<(), Fault> {
-        Index::begin_cleanup(self)
-    }
-
-    fn vacuum(&mut self, steps: u32) -> Result<Option<VacuumStats>, Fault> {
-        Index::vacuum(self, steps)
-    }
-
-    fn end_vacuum(&mut self) -> Result<RowSet, Fault> {
-        Index::end_vacuum(self)
     }
 }
