@@ -354,15 +354,14 @@ static void stopped(void) {
 }
 
 int main(void) {
-    alarm(100);
     unlink(COPY);
     unlink(DRAFT);
-    contents();
-    sizes();
-    failures();
-    others_insert();
-    forks_and_kills();
-    stopped();
+    IN_A_MINUTE(contents());
+    IN_A_MINUTE(sizes());
+    IN_A_MINUTE(failures());
+    IN_A_MINUTE(others_insert());
+    IN_A_MINUTE(forks_and_kills());
+    IN_A_MINUTE(stopped());
     unlink(PATH);
     puts("copies: all is as it must be");
     return 0;

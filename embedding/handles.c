@@ -214,7 +214,7 @@ static void orphans(void) {
     HOLDS(read(ends[0], &child, sizeof child) == sizeof child);
     waitpid(parent, 0, 0);
     /* The child may not have come to close it yet. */
-    for (int i = 0; i < 100 && !is_free(PATH); i++) usleep(10000);
+    for (int i = 0; i < 3000 && !is_free(PATH); i++) usleep(10000);
     HOLDS(is_free(PATH));
     kill(child, SIGKILL);
     close(ends[0]);
@@ -302,15 +302,14 @@ static void cancelled_threads(void) {
 }
 
 int main(void) {
-    alarm(60);
-    one_file();
-    descriptors();
-    closed_streams();
-    started_program();
-    children();
-    orphans();
-    forks_beside_calls();
-    cancelled_threads();
+    IN_A_MINUTE(one_file());
+    IN_A_MINUTE(descriptors());
+    IN_A_MINUTE(closed_streams());
+    IN_A_MINUTE(started_program());
+    IN_A_MINUTE(children());
+    IN_A_MINUTE(orphans());
+    IN_A_MINUTE(forks_beside_calls());
+    IN_A_MINUTE(cancelled_threads());
     unlink(PATH);
     puts("handles: all is as it must be");
     return 0;

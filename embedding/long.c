@@ -227,7 +227,8 @@ int main(int argc, char **argv) {
     IS(0, pthread_create(threads + count++, 0, looks_up, 0));
     IS(0, pthread_create(threads + count++, 0, deletes_old, 0));
     IS(0, pthread_create(threads + count++, 0, commits_only, 0));
-    for (unsigned i = 0; i < seconds * 10; i++) {
+    /* On a busy machine it lasts until each call was made. */
+    for (unsigned i = 0; i < seconds * 10 || !commits || !scans || !gets || !deletes; i++) {
         usleep(100000);
         if (i % 50 == 49) IS(0, nardsill_checkpoint(shared, 0));
     }

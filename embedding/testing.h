@@ -6,9 +6,12 @@
 #include <stdio.h>
 #include <stdlib.h>
 #include <string.h>
+#include <unistd.h>
 
 #define IS(want, call) is((long)(want), (long)(call), #call, __FILE__, __LINE__)
 #define HOLDS(what) IS(1, !!(what))
+/* A part of a test that waits for ever is ended. None takes a second, on a machine that does nothing else. */
+#define IN_A_MINUTE(part) (alarm(60), (void)(part))
 
 static inline void is(long want, long got, const char *call, const char *file, int line) {
     if (want == got) return;

@@ -134,17 +134,23 @@ class Judge:
         self.scan_once()
         self.index.close()
 
+    def has_made_all(self) -> bool:
+        return all(count for what, count in self.counts.items() if what != "refused")
+
     def run(self, seconds: float) -> None:
         works: List[Callable[[], None]] = [lambda one=one: self.insert(one) for one in self.inserters]  # type: ignore[misc]
         works += [self.scan, self.scan, self.look_up, self.delete_old, self.commit_alone]
 
         def end_later() -> None:
             self.is_over.wait(seconds)
+            # A busy machine may not have come to each call yet.
+            while not self.is_over.is_set() and not self.has_made_all():
+                self.is_over.wait(0.01)
             self.is_over.set()
 
         run_all(*map(self.until_over, works), end_later, within=seconds + 90)
         self.end()
-        assert all(count for what, count in self.counts.items() if what != "refused"), self.counts
+        assert self.has_made_all(), self.counts
 
 
 def main() -> None:

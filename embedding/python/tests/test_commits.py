@@ -42,7 +42,7 @@ class Commits(Room):
         """A force writes twice at least, so eight commits that share none write sixteen times. The best of some runs counts: other work on
         the machine may part them."""
         shares = []
-        for turn in range(5):
+        for turn in range(20):
             index = self.opened(f"{self.path}.{turn}")
             before = writes()
             self.insert_and_commit(index, 8, 50)

@@ -66,7 +66,7 @@ class Patience(Room):
             self.assertEqual((removed, index.info().scans), ([], 1))
             ends(index, scan)
 
-        run_all(delete, go_on, within=30)
+        run_all(delete, go_on)
         self.assertEqual(removed, [2])
         self.assertEqual(index.vacuum().entries, 9)
 
@@ -89,7 +89,7 @@ class Patience(Room):
             time.sleep(0.1)
             index.patience = 0
 
-        run_all(delete, shorten, within=30)
+        run_all(delete, shorten)
         scan.close()
 
     def test_calls_beside_a_bulk_delete(self):

@@ -11,7 +11,6 @@ from unittest import mock
 
 from room import Room, listed, nardsill, run_all
 
-OF_3_10 = unittest.skipIf(sys.version_info < (3, 10), "before Python 3.10 handlers come anywhere: two tests of them are passed over")
 
 class Stop(Exception):
     """What a signal handler raises."""
@@ -142,8 +141,8 @@ class Shared(Room):
 class Between(Room):
     """Signal handlers, and finalizers, between the steps of a call."""
 
-    def timed(self, handler, seconds, work):
-        """Works, while the handler comes in over and over, but not into itself."""
+    def timed(self, handler, seconds, work, is_enough=lambda: True):
+        """Works, while the handler comes in over and over, but not into itself: so many seconds, or longer, until it is enough."""
         inside = []
 
         def come(*_):
@@ -158,7 +157,8 @@ class Between(Room):
         signal.setitimer(signal.ITIMER_REAL, 0.0003, 0.0003)
         try:
             end = time.monotonic() + seconds
-            while time.monotonic() < end:
+            while time.monotonic() < end or not is_enough():
+                self.assertLess(time.monotonic(), end + 60)
                 work()
         finally:
             signal.setitimer(signal.ITIMER_REAL, 0)
@@ -302,8 +302,7 @@ class Between(Room):
             self.assertEqual(self.refused(nardsill.KeyExists, index.insert, b"mine", (3, 3)).row, (1, 1))
             counts["mine"] += 1
 
-        self.timed(handler, 3, work)
-        self.assertTrue(counts["handler"] > 100 and counts["mine"] > 100)
+        self.timed(handler, 3, work, lambda: counts["handler"] > 100 and counts["mine"] > 100)
 
     def test_a_refused_call_between_a_call_and_its_fault(self):
         """The worst moment, each time: as a handler that comes exactly there."""
@@ -378,7 +377,6 @@ class Between(Room):
         self.timed(handler, 3, work)
         self.assertEqual(nardsill.check(self.path).damage, 0)
 
-    @OF_3_10
     def test_an_exception_of_a_handler(self):
         """A loop over a scan that is left by one goes on with the next entry, but for one that was on its way."""
 
@@ -412,7 +410,6 @@ class Between(Room):
         # No call is left behind: a close of another thread doesn't wait.
         run_all(index.close)
 
-    @OF_3_10
     def test_a_scan_that_a_handler_reads_and_seeks(self):
         many = [b"%08d" % at for at in range(5_000)]
         index = self.opened(pages=4096)
