@@ -1,7 +1,7 @@
 /* Compares the virtual table with an ordinary one: differ [QUERIES [STEPS [SEED]]]
  *
- * Random queries over tables of texts and of blobs; then random transactions, with a look at all rows after each step. Status 1 at the
- * first difference, which it prints. */
+ * Random queries over tables of texts and of blobs; then random transactions, with a look at all rows after each step; then transactions
+ * that make a table, fill it, rename it and change others. Status 1 at the first difference, which it prints. */
 #include "testing.h"
 
 /* A text or a blob, a number, or null. */
@@ -662,6 +662,134 @@ static void compare_transactions(const char *type, int unique, int count) {
     printf("%s%s: %d steps, no difference; %s\n", unique ? "unique " : "", type, count, refused ? "some commits refused" : "no commit refused");
 }
 
+/* ---- Tables that are made in a transaction ---- */
+
+/* The names that the two tables have now. */
+static const char *name_of_table, *name_of_ordinary;
+
+static void rename_both(void) {
+    int is_first = !strcmp(name_of_table, "t");
+    char text[80];
+    snprintf(text, sizeof text, "alter table %s rename to %s", name_of_table, is_first ? "u" : "t");
+    run(of_table, text);
+    snprintf(text, sizeof text, "alter table %s rename to %s", name_of_ordinary, is_first ? "p" : "o");
+    run(of_ordinary, text);
+    name_of_table = is_first ? "u" : "t";
+    name_of_ordinary = is_first ? "p" : "o";
+}
+
+/* How many were made in this transaction: each has a file of its own. */
+static unsigned made;
+
+static void remove_made(void) {
+    char path[40];
+    while (made) {
+        snprintf(path, sizeof path, "made-%u.idx", --made);
+        unlink(path);
+    }
+}
+
+static void make_both(void) {
+    char *make = sqlite3_mprintf("create virtual table t using nardsill('made-%u.idx', pages=512, log_bytes=65536)", made++);
+    run(of_table, make);
+    sqlite3_free(make);
+    run(of_ordinary, "create table o(key text check (typeof(key) = 'text'), block integer check (block between 0 and 4294967294),"
+                     " offset integer check (offset > 0), primary key(key, block, offset)) without rowid");
+    name_of_table = "t";
+    name_of_ordinary = "o";
+}
+
+static int has_table(sqlite3 *db, const char *name) { return name && sqlite3_table_column_metadata(db, "main", name, 0, 0, 0, 0, 0, 0) == SQLITE_OK; }
+
+static void compare_made(void) {
+    TRUE(has_table(of_table, name_of_table) == has_table(of_ordinary, name_of_ordinary));
+    if (!has_table(of_table, name_of_table)) return;
+    answer table = all_rows(of_table, name_of_table), ordinary = all_rows(of_ordinary, name_of_ordinary);
+    if (!is_same(&table, &ordinary, 1)) tell_difference(&table, &ordinary);
+    free_answer(&table);
+    free_answer(&ordinary);
+}
+
+/* A step of a transaction in which the tables are made. The way back to a savepoint has the names that stood there. */
+static void take_making_step(const char **names, int *savepoints) {
+    char text[40];
+    uint32_t kind = roll(12);
+    if (kind < 2) change_schema();
+    else if (kind < 4 && has_table(of_table, name_of_table)) rename_both();
+    else if (kind < 6 && *savepoints < 8) {
+        names[2 * *savepoints] = name_of_table;
+        names[2 * *savepoints + 1] = name_of_ordinary;
+        snprintf(text, sizeof text, "savepoint s%d", (*savepoints)++);
+        run(of_table, text), run(of_ordinary, text);
+    } else if (kind < 7 && *savepoints) {
+        int which = (int)roll((uint32_t)*savepoints);
+        snprintf(text, sizeof text, "rollback to s%d", which);
+        run(of_table, text), run(of_ordinary, text);
+        *savepoints = which + 1;
+        name_of_table = names[2 * which];
+        name_of_ordinary = names[2 * which + 1];
+    } else if (!has_table(of_table, name_of_table)) make_both();
+    else {
+        sql_len = num_bound = 0;
+        put("insert or ignore into @");
+        put_rows(0);
+        answer table = ask(of_table, name_of_table), ordinary = ask(of_ordinary, name_of_ordinary);
+        TRUE(!table.status && !ordinary.status);
+        free_answer(&table);
+        free_answer(&ordinary);
+    }
+}
+
+/* Transactions in which a table is made, filled and renamed, while others are altered: what is committed is what the ordinary one has. */
+static void compare_makings(int count) {
+    is_blob = is_unique = 0;
+    unlink("differ.db");
+    for (int i = 0; i < count; i++) {
+        const char *names[16];
+        int savepoints = 0;
+        of_table = connect_to("differ.db");
+        TRUE(!sqlite3_open(":memory:", &of_ordinary));
+        name_of_table = name_of_ordinary = 0;
+        run(of_table, "begin"), run(of_ordinary, "begin");
+        for (uint32_t steps = 4 + roll(16); steps; steps--) {
+            take_making_step(names, &savepoints);
+            compare_made();
+        }
+        int is_kept = !once_in(4);
+        run(of_table, is_kept ? "commit" : "rollback"), run(of_ordinary, is_kept ? "commit" : "rollback");
+        if (!is_kept) name_of_table = name_of_ordinary = 0;
+        compare_made();
+        TRUE(!sqlite3_close(of_table));
+        of_table = connect_to("differ.db");
+        compare_made();
+        if (name_of_table && has_table(of_table, name_of_table)) {
+            char text[40];
+            snprintf(text, sizeof text, "drop table %s", name_of_table);
+            run(of_table, text);
+        }
+        TRUE(!sqlite3_close(of_table));
+        sqlite3_close(of_ordinary);
+        remove_made();
+    }
+    printf("made: %d transactions, no difference\n", count);
+}
+
+/* A second table of an index isn't made inside a transaction, and the changes of the first one are kept. Outside of one it is made. */
+static void second_table(void) {
+    unlink("differ.db");
+    of_table = connect_to("differ.db");
+    run(of_table, "create virtual table t using nardsill('made-0.idx', pages=512, log_bytes=65536)");
+    run(of_table, "begin; savepoint a");
+    TRUE(exec(of_table, "create virtual table v using nardsill('made-0.idx')") == SQLITE_LOCKED);
+    TRUE(strstr(sqlite3_errmsg(of_table), "another table has this index") != 0);
+    run(of_table, "rollback to a; insert into t values ('a', 1, 1); commit");
+    run(of_table, "create virtual table v using nardsill('made-0.idx')");
+    ROWS(of_table, "select count(*) from t join v using (key, block, offset)", "1");
+    TRUE(!sqlite3_close(of_table));
+    unlink("made-0.idx");
+    puts("second: refused in a transaction, made outside of one");
+}
+
 int main(int argc, char **argv) {
     int queries = argc > 1 ? atoi(argv[1]) : 20000, steps = argc > 2 ? atoi(argv[2]) : 5000;
     dice = argc > 3 ? (uint32_t)atoi(argv[3]) : 1;
@@ -672,5 +800,7 @@ int main(int argc, char **argv) {
     compare_transactions("text", 0, steps);
     compare_transactions("blob", 0, steps);
     compare_transactions("text", 1, steps);
+    compare_makings(steps / 4);
+    second_table();
     return 0;
 }

@@ -30,14 +30,16 @@ SQLITE_EXTENSION_INIT1
 #error "the header of SQLite 3.38 or later is wanted"
 #endif
 
-typedef struct {
+typedef struct table table;
+struct table {
     sqlite3_vtab base;
+    table *next; /* of its store's */
     sqlite3 *db;
     store *of;
     int is_blob;
     int is_new; /* made in the transaction that is open */
     char *schema, *name;
-} table;
+};
 
 typedef struct {
     sqlite3_vtab_cursor base;
@@ -88,7 +90,11 @@ static int start(table *t, connection *of, arguments *a, int may_make, const cha
     if (!t->schema || !t->name) return SQLITE_NOMEM;
     int status = a->is_blob ? SQLITE_OK : judge_encoding(t->db, message);
     if (!status) status = declare(t->db, a->is_blob);
-    return status ? status : take_store(of, a, may_make, &t->of, message);
+    if (!status) status = take_store(of, a, may_make, !sqlite3_get_autocommit(t->db), &t->of, message);
+    if (status) return status;
+    t->next = t->of->tables;
+    t->of->tables = t;
+    return SQLITE_OK;
 }
 
 static int start_table(sqlite3 *db, void *aux, int argc, const char *const *argv, sqlite3_vtab **out, char **message, int may_make) {
@@ -114,7 +120,9 @@ static int connect_table(sqlite3 *db, void *aux, int argc, const char *const *ar
 }
 
 static int disconnect(sqlite3_vtab *base) {
-    table *t = (table *)base;
+    table *t = (table *)base, **link = &t->of->tables;
+    while (*link != t) link = &(*link)->next;
+    *link = t->next;
     let_go(t->of);
     return free_table(t);
 }
@@ -583,9 +591,17 @@ static int begin(sqlite3_vtab *base) {
 /* Whether SQLite still has the table: going back to a savepoint may have undone its making. */
 static int is_in_schema(const table *t) { return !sqlite3_table_column_metadata(t->db, t->schema, t->name, 0, 0, 0, 0, 0, 0); }
 
+/* Whether it still has any table of this index. The one that was made may have been connected anew, as when another table is altered, and
+   then a renaming comes to the new object alone. */
+static int has_a_table(const table *made) {
+    for (const table *t = made->of->tables; t; t = t->next)
+        if (is_in_schema(t)) return 1;
+    return 0;
+}
+
 static int sync_table(sqlite3_vtab *base) {
     table *t = (table *)base;
-    if (t->is_new && t->of->pending.num_acts && !is_in_schema(t)) keep_acts(&t->of->pending, 0);
+    if (t->is_new && t->of->pending.num_acts && !has_a_table(t)) keep_acts(&t->of->pending, 0);
     return sync_store(t->of, t->is_blob, &base->zErrMsg);
 }
 

@@ -32,6 +32,7 @@ struct store {
     connection *of;
     store *next;
     int uses; /* tables that have it */
+    struct table *tables; /* these */
     char *path;
     nardsill *index;
     int is_unique;
@@ -141,13 +142,17 @@ static void let_go(store *s) {
 }
 
 /* The store of the file that the arguments name. */
-static int take_store(connection *of, arguments *a, int may_make, store **out, char **message) {
+static int take_store(connection *of, arguments *a, int may_make, int is_open, store **out, char **message) {
     store *s = find_store(of, a->path);
     int status = s ? SQLITE_OK : open_store(of, a, may_make, &s, message);
     if (status) return status;
     s->uses++;
     nardsill_details details = NARDSILL_DETAILS;
-    if (may_make && s->pending.num_acts) {
+    /* If a savepoint undoes the making, SQLite doesn't tell the table of it: so the changes of another one would stay, or go. */
+    if (may_make && s->uses > 1 && is_open) {
+        say(message, "nardsill: %s: another table has this index: end the transaction before another one is made", a->path);
+        status = SQLITE_LOCKED;
+    } else if (may_make && s->pending.num_acts) {
         say(message, "nardsill: %s: the open transaction has changed this index: end it first", a->path);
         status = SQLITE_LOCKED;
     } else if (may_make) {
