@@ -56,7 +56,7 @@ from ._index import Index, Scan, frames_in_range, limits_in_range, path_bytes
 from ._library import version
 from ._values import AnyRow, Entry, Info, Key, Report, Row, Stats
 
-__version__ = "1.2.0"
+__version__ = "1.3.0"
 
 
 def create(path: Any, items: int = 50, pages: int = 4096, log_bytes: int = 1 << 20, unique: bool = False) -> None:
