@@ -9,9 +9,9 @@ extern "C" {
 
 /* The version of this header. A library of the same major number has at least what a header of a lower minor one names. */
 #define NARDSILL_VERSION_MAJOR 1
-#define NARDSILL_VERSION_MINOR 2
+#define NARDSILL_VERSION_MINOR 3
 #define NARDSILL_VERSION_PATCH 0
-#define NARDSILL_VERSION "1.2.0"
+#define NARDSILL_VERSION "1.3.0"
 
 /* What a call answers is to be looked at: a commit that was refused has made nothing durable. */
 #if defined(__GNUC__)

@@ -4,7 +4,7 @@ use std::io::{self, Write};
 
 /// The version of the programs and of the library for C: three numbers. The file VERSION has it too, and a
 /// check compares the two.
-pub const VERSION: &str = "1.2.0";
+pub const VERSION: &str = "1.3.0";
 
 /// Whether these are the words of a program that is asked for its version: its own name and `--version`.
 pub fn is_version(words: &[String]) -> bool {
