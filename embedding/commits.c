@@ -183,11 +183,12 @@ static void wait_for(sem_t *done) {
     for (unsigned ticks = 0; sem_trywait(done);) tick(&ticks);
 }
 
-/* A thread that inserts an entry and commits, each time that it is sent; or inserts alone. */
+/* A thread that inserts an entry and commits, each time that it is sent; or makes another call. */
 struct committer {
     pthread_t thread;
     sem_t go, done;
     nardsill *index;
+    int (*does)(nardsill *);
     unsigned who, sent;
     int is_over, inserts_alone, inserted, status, error;
     nardsill_fault fault;
@@ -205,10 +206,10 @@ static void *commits_when_sent(void *at) {
     for (;;) {
         sem_wait(&me->go);
         if (me->is_over) return 0;
-        me->inserted = insert_next(me->index, me->who, me->sent++, &me->action);
+        if (!me->does) me->inserted = insert_next(me->index, me->who, me->sent++, &me->action);
         errno = 77;
         me->told = me->action;
-        me->status = me->inserts_alone ? 0 : nardsill_commit(me->index, &me->told);
+        me->status = me->does ? me->does(me->index) : me->inserts_alone ? 0 : nardsill_commit(me->index, &me->told);
         me->error = errno;
         me->fault = *nardsill_last_fault();
         sem_post(&me->done);
@@ -345,21 +346,33 @@ static void alone(void) {
     unlink(OTHER);
 }
 
-/* A child whose calls of the parent's handle are refused, at once. */
-static void fork_one(nardsill *index) {
+/* A child whose calls of the parent's handle are refused, at once, and which closes this scan of it. */
+static void fork_one(nardsill *index, nardsill_scan *scan) {
     int status;
     if (IS_WATCHED) return;
     pid_t child = fork();
     if (!child) {
         alarm(20);
+        nardsill_scan_close(scan);
         _exit(nardsill_commit(index, 0) != NARDSILL_FORKED || nardsill_close(index) != NARDSILL_FORKED);
     }
     waitpid(child, &status, 0);
     IS(0, status);
 }
 
-/* While a commit makes its first sync, or its second one, calls that read go on. One that inserts waits for its end. */
-static void beside_a_sync(unsigned held) {
+static int checkpoints(nardsill *index) { return nardsill_checkpoint(index, 0); }
+
+static int vacuums(nardsill *index) { return nardsill_vacuum(index, 0); }
+
+static int deletes(nardsill *index) { return nardsill_delete_rows(index, (nardsill_row[]){{77, 7}}, 1, 0); }
+
+/* Until the one that was sent last waits: it isn't over before. */
+static void is_kept_waiting(struct committer *one) {
+    for (unsigned ticks = 0; waiting != 1; tick(&ticks)) HOLDS(sem_trywait(&one->done));
+}
+
+/* While a commit makes its first sync, or its second one, calls that read go on. One that inserts, or does this, waits for its end. */
+static void beside_a_sync(unsigned held, int (*does)(nardsill *)) {
     nardsill *index = made(PATH, &limits);
     struct committer all[2];
     nardsill_details details = NARDSILL_DETAILS;
@@ -367,6 +380,7 @@ static void beside_a_sync(unsigned held) {
     unsigned char key[16];
     unsigned ticks = 0;
     start(all, 2, index);
+    all[1].does = does;
     send(all);
     succeeded(all);
     key_of(0, key);
@@ -379,14 +393,46 @@ static void beside_a_sync(unsigned held) {
         IS(0, nardsill_info(index, &details));
     }
     send(all + 1);
-    wait_until(1);
+    is_kept_waiting(all + 1);
     IS(2, counted(index));
     HOLDS(sem_trywait(&all[0].done) && sem_trywait(&all[1].done));
-    fork_one(index);
+    fork_one(index, 0);
     held_sync = 0;
     succeeded(all);
     succeeded(all + 1);
-    IS(3, counted(index));
+    IS(does ? 2 : 3, counted(index));
+    stop(all, 2);
+    IS(0, nardsill_close(index));
+}
+
+static int informs(nardsill *index) {
+    nardsill_details details = NARDSILL_DETAILS;
+    return nardsill_info(index, &details);
+}
+
+/* A commit that has synced goes before calls that come, which else might keep it from the lock one after the other. */
+static void before_readers(void) {
+    nardsill *index = made(PATH, &limits);
+    struct committer all[2];
+    unsigned ticks = 0;
+    start(all, 2, index);
+    all[1].does = informs;
+    send(all);
+    succeeded(all);
+    held_sync = syncs + 1;
+    send(all);
+    while (!is_syncing || syncs != held_sync) tick(&ticks);
+    /* Its next lock is the handle's, which it comes back for. */
+    kept = all[0].thread;
+    is_there = 0;
+    is_kept = 1;
+    held_sync = 0;
+    while (!is_there) tick(&ticks);
+    send(all + 1);
+    is_kept_waiting(all + 1);
+    is_kept = 0;
+    succeeded(all);
+    succeeded(all + 1);
     stop(all, 2);
     IS(0, nardsill_close(index));
 }
@@ -488,7 +534,7 @@ static void meanwhile(void) {
     IS(0, nardsill_get(index, key, 16, &row));
     IS(entries + 3, counted(index));
     IS(before, syncs);
-    fork_one(index);
+    fork_one(index, 0);
     /* A thread isn't cancelled where it waits. */
     pthread_cancel(all[1].thread);
     usleep(1000);
@@ -599,17 +645,22 @@ static void together_again(void) {
 static void at_the_lock(void) {
     nardsill *index = made(PATH, &limits);
     struct committer all[2];
+    nardsill_scan *scan;
     unsigned ticks = 0;
     start(all, 2, index);
     for (int i = 1; i >= 0; i--) {
         send(all + i);
         succeeded(all + i);
     }
+    IS(0, nardsill_scan_open(index, 0, 0, 0, 0, &scan));
     slowness = LONG_ENOUGH;
     is_write_held = 1;
     send(all);
     while (!is_syncing) tick(&ticks);
+    /* A thread has the lock: a child has no use of it. */
+    fork_one(index, scan);
     kept = all[1].thread;
+    is_there = 0;
     is_kept = 1;
     send(all + 1);
     while (!is_there) tick(&ticks);
@@ -625,6 +676,7 @@ static void at_the_lock(void) {
     is_held = 0;
     slowness = 0;
     HOLDS(waits);
+    nardsill_scan_close(scan);
     stop(all, 2);
     IS(0, nardsill_close(index));
 }
@@ -651,6 +703,8 @@ static void failed(int error) {
         IS(NARDSILL_IO, all[i].fault.status);
         IS(error, all[i].fault.error);
         HOLDS(!all[i].fault.page && !all[i].fault.row.block && !all[i].fault.row.offset);
+        /* What it would tell stays as it was. */
+        IS(all[i].action, all[i].told);
     }
     failing = 0;
     is_held = 0;
@@ -785,7 +839,7 @@ static void forks_beside_commits(void) {
         workers[i] = (struct worker){index, i, 200, 0, 0};
         IS(0, pthread_create(ids + i, 0, works, workers + i));
     }
-    for (int i = 0; i < 30; i++) fork_one(index);
+    for (int i = 0; i < 30; i++) fork_one(index, 0);
     for (unsigned i = 0; i < 4; i++) pthread_join(ids[i], 0);
     IS(800, counted(index));
     IS(0, nardsill_close(index));
@@ -793,8 +847,13 @@ static void forks_beside_commits(void) {
 
 int main(void) {
     IN_A_MINUTE(alone());
-    IN_A_MINUTE(beside_a_sync(1));
-    IN_A_MINUTE(beside_a_sync(2));
+    for (unsigned held = 1; held <= 2; held++) {
+        IN_A_MINUTE(beside_a_sync(held, 0));
+        IN_A_MINUTE(beside_a_sync(held, checkpoints));
+        IN_A_MINUTE(beside_a_sync(held, vacuums));
+        IN_A_MINUTE(beside_a_sync(held, deletes));
+    }
+    IN_A_MINUTE(before_readers());
     IN_A_MINUTE(before_the_next());
     IN_A_MINUTE(told_apart());
     IN_A_MINUTE(meanwhile());

@@ -19,10 +19,10 @@ enum { ALL = 20000 };
 
 static const nardsill_limits limits = {sizeof limits, 50, 4096, 1 << 20, 0};
 
-/* The calls that write, so far, and from which on they fail, with which number; 0 for never. */
+/* The calls that write, so far, and from which on they fail, with which number; 0 for never. Whether that one alone fails. */
 static atomic_uint calls;
 static unsigned failing;
-static int why;
+static int why, is_alone;
 /* Writes since the last sync of a file, and what they were when a file got its name. */
 static atomic_uint unsynced, unsynced_then;
 
@@ -32,7 +32,7 @@ int __real_link(const char *from, const char *to);
 ssize_t __real_pwrite(int fd, const void *from, size_t count, off_t at);
 
 static int fails(void) {
-    if (!failing || ++calls < failing) return 0;
+    if (!failing || ++calls < failing || (is_alone && calls > failing)) return 0;
     errno = why;
     return 1;
 }
@@ -210,8 +210,9 @@ static void sizes(void) {
     IS(0, nardsill_close(index));
 }
 
-/* Each call of the file fails, and all after it: nothing is left, or all of it. The old index goes on. */
-static void failures(void) {
+/* Each call of the file fails, and all after it, or that one alone: nothing is left. The copy that meets none is whole. The old index goes
+   on. */
+static void failures(int alone) {
     static const nardsill_limits small = {sizeof small, 50, 64, 65536, 0};
     nardsill *index = filled(0, 1500), *copy;
     IS(0, nardsill_checkpoint(index, 0));
@@ -220,10 +221,11 @@ static void failures(void) {
         uint64_t copied = 77;
         calls = 0;
         why = at % 2 ? ENOSPC : EIO;
+        is_alone = alone;
         failing = at;
         status = nardsill_copy(index, COPY, &small, 0, 0, &copied);
         failing = 0;
-        if (status) {
+        if (status || calls >= at) {
             IS(NARDSILL_IO, status);
             IS(why, nardsill_last_fault()->error);
             IS(77, copied);
@@ -344,6 +346,7 @@ static void stopped(void) {
     if (!child) _exit(nardsill_copy(index, COPY, 0, 0, 0, 0) != NARDSILL_FORKED);
     waitpid(child, &status, 0);
     IS(0, status);
+    is_alone = 0;
     failing = 1;
     why = EIO;
     IS(NARDSILL_IO, nardsill_commit(index, 0));
@@ -358,7 +361,8 @@ int main(void) {
     unlink(DRAFT);
     IN_A_MINUTE(contents());
     IN_A_MINUTE(sizes());
-    IN_A_MINUTE(failures());
+    IN_A_MINUTE(failures(0));
+    IN_A_MINUTE(failures(1));
     IN_A_MINUTE(others_insert());
     IN_A_MINUTE(forks_and_kills());
     IN_A_MINUTE(stopped());

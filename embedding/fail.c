@@ -14,8 +14,12 @@
 
 /* Which calls fail now, and with which number. */
 static int no_sync, no_folder_sync, no_read, no_write, no_link, no_rename;
-/* A file isn't opened a second time. How often one is. */
-static int no_second, seconds;
+/* Which write or sync from now on fails, 0 for none, with which number, and whether those behind it do; and whether it has come. */
+static int countdown, why, is_for_ever, has_come;
+/* Syncs aren't handed on, where no test needs them: they take long on a disk. */
+static int is_quick;
+/* A file isn't opened a second time. How often one is, and how often to write. */
+static int no_second, seconds, writable_seconds;
 /* What a file system is told to be, if it isn't what it is; -1: that can't be known. */
 static long of_kind;
 /* Another maker places the draft just before its lock is asked for. */
@@ -44,12 +48,25 @@ static int refuse(int error) {
     return -1;
 }
 
-int __wrap_fdatasync(int fd) { return no_sync ? refuse(no_sync) : __real_fdatasync(fd); }
+/* Whether a write or a sync is to fail. */
+static int fails(void) {
+    if (has_come) return is_for_ever;
+    has_come = countdown && !--countdown;
+    return has_come;
+}
+
+int __wrap_fdatasync(int fd) {
+    if (no_sync) return refuse(no_sync);
+    if (fails()) return refuse(why);
+    return is_quick ? 0 : __real_fdatasync(fd);
+}
 
 /* Notes the syncs of a folder. */
 int __wrap_fsync(int fd) {
     struct stat synced;
     if (no_sync) return refuse(no_sync);
+    if (fails()) return refuse(why);
+    if (is_quick) return 0;
     if (!fstat(fd, &synced) && S_ISDIR(synced.st_mode)) {
         if (no_folder_sync) return refuse(no_folder_sync);
         folder_syncs++;
@@ -74,6 +91,7 @@ int __wrap_open(const char *path, int flags, ...) {
     if (!strncmp(path, "/proc/", 6)) {
         if (no_second) return refuse(no_second);
         seconds++;
+        writable_seconds += (flags & O_ACCMODE) != O_RDONLY;
     }
     return __real_open(path, flags, 0666);
 }
@@ -112,7 +130,10 @@ int __wrap_renameat2(int from_fd, const char *from, int to_fd, const char *to, u
 
 ssize_t __wrap_pread(int fd, void *out, size_t count, off_t at) { return no_read ? refuse(no_read) : __real_pread(fd, out, count, at); }
 
-ssize_t __wrap_pwrite(int fd, const void *from, size_t count, off_t at) { return no_write ? refuse(no_write) : __real_pwrite(fd, from, count, at); }
+ssize_t __wrap_pwrite(int fd, const void *from, size_t count, off_t at) {
+    if (no_write) return refuse(no_write);
+    return fails() ? refuse(why) : __real_pwrite(fd, from, count, at);
+}
 
 /* How many descriptors the process has open. */
 static int open_descriptors(void) {
@@ -197,6 +218,109 @@ static void reads_and_writes(void) {
     FAILS(EIO, (int)count(index, &entries));
     HOLDS(nardsill_close(index) != 77);
     IS(NARDSILL_BAD_SUPER, nardsill_open(PATH, 16, &index));
+    unlink(PATH);
+}
+
+static int has_stopped(nardsill *index) {
+    nardsill_details details = NARDSILL_DETAILS;
+    IS(0, nardsill_info(index, &details));
+    return (int)details.stopped;
+}
+
+/* Entries that outgrow the log and what is in memory, with lookups and commits among them, up to the first call in which one of the file
+   fails. Answers what that call answers. */
+static int work(nardsill *index) {
+    unsigned char key[16];
+    nardsill_row row;
+    int status = 0;
+    for (unsigned i = 0; i < 1500 && !status && !has_come; i++) {
+        key_of(i, key);
+        status = nardsill_insert(index, key, 16, row_of(i, 1), 0);
+        if (status || has_come) return status;
+        if (i % 64 == 0) HOLDS(!has_stopped(index));
+        key_of(i / 2, key);
+        status = nardsill_get(index, key, 16, &row);
+        if (!status && !has_come && i % 200 == 199) status = nardsill_commit(index, 0);
+    }
+    return status;
+}
+
+/* The refusals behind a failed write or sync: each tells why, and sooner or later all calls are refused. */
+static void is_refused(int status) {
+    if (!status) return;
+    HOLDS(status == NARDSILL_IO || status == NARDSILL_STOPPED);
+    IS(status, nardsill_last_fault()->status);
+    IS(why, nardsill_last_fault()->error);
+    if (status == NARDSILL_IO) IS(why, errno);
+}
+
+/* A write or a sync fails, that one alone or all from it on. Then the index has stopped, and tells it and why. Whether one has failed. */
+static int stops_at(int which, int for_ever, int is_asked) {
+    static const nardsill_limits small_log = {sizeof small_log, 8, 1024, 65536, 0};
+    nardsill *index;
+    unsigned char key[16];
+    nardsill_row row;
+    unlink(PATH);
+    is_quick = 1;
+    IS(0, nardsill_create(PATH, &small_log));
+    IS(0, nardsill_open(PATH, 16, &index));
+    why = which % 2 ? ENOSPC : EIO;
+    is_for_ever = for_ever;
+    countdown = which;
+    int status = work(index), is_found = has_come;
+    if (is_found) {
+        is_refused(status);
+        if (is_asked) IS(1, has_stopped(index));
+        for (int i = 0; i < 3; i++) {
+            key_of(7777, key);
+            int inserted = nardsill_insert(index, key, 16, row_of(7777, 1), 0);
+            is_refused(inserted);
+            int got = nardsill_get(index, key, 16, &row);
+            is_refused(got == NARDSILL_NOT_FOUND ? 0 : got);
+            int made = nardsill_checkpoint(index, 0);
+            is_refused(made);
+            /* What is told as durable isn't lost: no checkpoint succeeds any more. */
+            HOLDS(made);
+            if (is_asked || i) HOLDS(inserted == NARDSILL_STOPPED && got == NARDSILL_STOPPED && made == NARDSILL_STOPPED);
+        }
+        IS(1, has_stopped(index));
+        IS(NARDSILL_STOPPED, nardsill_close(index));
+    } else {
+        IS(0, status);
+        IS(0, has_stopped(index));
+        IS(0, nardsill_close(index));
+    }
+    countdown = has_come = is_quick = 0;
+    return is_found;
+}
+
+static void stops(void) {
+    for (int kind = 0; kind < 4; kind++)
+        for (int which = 1; stops_at(which, kind / 2, kind % 2); which += 1 + which / 6) HOLDS(which < 100000);
+}
+
+/* A read that fails stops nothing, and info tells so. */
+static void reads_stop_nothing(void) {
+    nardsill *index;
+    nardsill_row row;
+    int entries;
+    unlink(PATH);
+    index = made(PATH, 0);
+    IS(0, insert(index, "a", 1, 1));
+    IS(0, nardsill_close(index));
+    IS(0, nardsill_open(PATH, 16, &index));
+    no_read = EIO;
+    FAILS(EIO, nardsill_get(index, "a", 1, &row));
+    IS(0, has_stopped(index));
+    FAILS(EIO, nardsill_get(index, "a", 1, &row));
+    no_read = 0;
+    IS(0, has_stopped(index));
+    IS(0, nardsill_get(index, "a", 1, &row));
+    IS(0, insert(index, "b", 1, 1));
+    IS(0, nardsill_commit(index, 0));
+    IS(NARDSILL_DONE, count(index, &entries));
+    IS(2, entries);
+    IS(0, nardsill_close(index));
     unlink(PATH);
 }
 
@@ -296,6 +420,18 @@ static void drafts(void) {
     HOLDS(folder_syncs == 1 && access(DRAFT, F_OK));
     IS(0, insert(index, "a", 1, 1));
     IS(0, nardsill_close(index));
+    /* So it is if the path leads there by a link of another folder. */
+    struct stat folder;
+    mkdir("fail-folder", 0777);
+    unlink("fail-folder/link.idx");
+    IS(0, symlink("../" PATH, "fail-folder/link.idx"));
+    IS(0, link(PATH, DRAFT));
+    folder_syncs = 0;
+    IS(0, nardsill_open("fail-folder/link.idx", 16, &index));
+    HOLDS(folder_syncs == 1 && !stat(".", &folder) && folder.st_ino == synced_folder && access(DRAFT, F_OK));
+    IS(0, nardsill_close(index));
+    unlink("fail-folder/link.idx");
+    rmdir("fail-folder");
     /* Such a whole file under another name is no draft to be written over. */
     IS(0, rename(PATH, "fail-moved.idx"));
     IS(0, link("fail-moved.idx", DRAFT));
@@ -397,6 +533,8 @@ int main(void) {
     closed_streams();
     syncs();
     reads_and_writes();
+    stops();
+    reads_stop_nothing();
     lost_locks();
     folders();
     names();
@@ -406,6 +544,7 @@ int main(void) {
     one_open_file(0, 0x65735546);
     one_open_file(0, -1);
     IS(0, wrong_closes);
+    IS(0, writable_seconds);
     IS(0, shared_opens);
     IS(descriptors, open_descriptors());
     unlink(PATH);

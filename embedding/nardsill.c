@@ -73,6 +73,9 @@ struct nardsill {
     nardsill_scan *scans; /* those that are open */
     uint32_t frames, count;
     int descriptor, beside; /* the library's own, for a forked child to close; the second syncs, and is -1 where there is no syncer */
+    int cause;              /* why the last call of the file failed that did; 0 where none has */
+    int is_doubtful;        /* one has: it may have been a write or a sync, behind which the file takes no call */
+    int has_stopped;        /* it was: each call is refused */
     int is_parents;       /* this process is a child of the one that opened it */
     nardsill *next;       /* of the process's handles */
 };
@@ -130,9 +133,9 @@ static struct outcome only(int status) { return (struct outcome){.status = statu
 
 static int misused(void) { return leave_with(enter(), only(NARDSILL_MISUSE)); }
 
-/* What the library answered. A call of the file that failed there has left its number in errno. */
+/* What the library answered. Why a call of the file has failed, now or before, stands in errno. */
 static struct outcome told(uint32_t status, uint32_t page, nardsill_row row) {
-    return (struct outcome){(int)status, status == NARDSILL_IO ? errno : 0, page, row};
+    return (struct outcome){(int)status, status == NARDSILL_IO || status == NARDSILL_STOPPED ? errno : 0, page, row};
 }
 
 static struct outcome told_by(struct nardsill_answer answer) {
@@ -217,7 +220,7 @@ static void close_unlocked(int fd) {
 
 /* Opens a file for this library alone. It never has the number of a standard stream, on which something else may write. */
 static struct outcome open_file(const char *path, int flags, int *fd) {
-    int low = open(path, O_RDWR | O_CLOEXEC | O_NOCTTY | flags, 0666);
+    int low = open(path, O_CLOEXEC | O_NOCTTY | flags, 0666);
     *fd = low;
     if (low < 0) return system_failed();
     if (low > 2) return only(0);
@@ -304,7 +307,7 @@ static struct outcome make(int fd, struct nardsill_make_ask ask) {
 /* Opens a draft that is nobody else's, and locks it. */
 static struct outcome open_draft(const char *draft, int *fd) {
     struct outcome outcome = let_whole_go(draft);
-    if (!outcome.status) outcome = open_file(draft, O_CREAT | O_NOFOLLOW, fd);
+    if (!outcome.status) outcome = open_file(draft, O_RDWR | O_CREAT | O_NOFOLLOW, fd);
     if (outcome.status) return outcome;
     outcome = lock(*fd);
     if (!outcome.status) outcome = is_draft(*fd, draft);
@@ -425,13 +428,14 @@ static int is_served(int fd) {
 
 /* Another open file of the same file, which syncs; or the same one, where the system opens none. Of a write that came to nothing the
    system tells each open file once: so the index's own syncs are told of it too, whoever was told first. On a volume of GlusterFS there
-   is one open file alone: a lock of its own that two share may stay behind on a server that comes back, and keeps other hosts out. */
+   is one open file alone: a lock of its own that two share may stay behind on a server that comes back, and keeps other hosts out. It is
+   open for reading: a sync wants no more, and no write goes out by it. */
 static int open_beside(int fd) {
     char anew[32];
     int beside;
     if (is_served(fd)) return fd;
     spell_path(fd, anew);
-    return open_file(anew, 0, &beside).status ? fd : beside;
+    return open_file(anew, O_RDONLY, &beside).status ? fd : beside;
 }
 
 /* Opens the index in a file of this library's own, in a handle that has no index yet. */
@@ -501,7 +505,7 @@ static struct outcome end_making(int fd, const char *path) {
 static struct outcome open_index(const char *path, int is_path, uint32_t frames, nardsill **out) {
     int fd;
     if (!hold_forks()) return only(NARDSILL_NO_MEMORY);
-    struct outcome outcome = open_file(path, 0, &fd);
+    struct outcome outcome = open_file(path, O_RDWR, &fd);
     if (!outcome.status) {
         outcome = start(fd, frames, out);
         if (!outcome.status && is_path) outcome = end_making(fd, path);
@@ -627,11 +631,28 @@ static void tell_blocked(struct turns *turns) {
     pthread_cond_signal(&turns->bell);
 }
 
+/* Notes that a call of the file has failed, or that none was made since one has: errno tells why then, and to each refusal behind it. */
+static void note_failure(nardsill *index, uint32_t status) {
+    if (status != NARDSILL_IO && status != NARDSILL_STOPPED) return;
+    if (errno) index->cause = errno;
+    else errno = index->cause;
+    index->is_doubtful = 1;
+    tell_blocked(&index->turns);
+}
+
+/* Whether a call frees what an index has in memory: it is made of one that has stopped too. */
+static int is_freeing(uint32_t what) { return what == NARDSILL_END || what == NARDSILL_END_VACUUM || what == NARDSILL_FREE_ROWS; }
+
 /* A call of the library, by a thread that has the handle's lock. */
 static struct nardsill_answer ask_locked(nardsill *index, struct nardsill_ask ask) {
+    struct nardsill_answer answer = {.status = NARDSILL_STOPPED};
     errno = 0;
-    struct nardsill_answer answer = nardsill_proved_call(index->shell, ask);
-    if (answer.status == NARDSILL_IO || answer.status == NARDSILL_STOPPED) tell_blocked(&index->turns);
+    if (!index->has_stopped || is_freeing(ask.what)) answer = nardsill_proved_call(index->shell, ask);
+    note_failure(index, answer.status);
+    /* An entry is in, and a call of the file that came behind it has failed. */
+    if (ask.what == NARDSILL_INSERT && !answer.status) note_failure(index, (uint32_t)answer.other);
+    /* A checkpoint reads nothing. */
+    if (ask.what == NARDSILL_CHECKPOINT && answer.status == NARDSILL_IO) index->has_stopped = 1;
     return answer;
 }
 
@@ -737,7 +758,9 @@ static void end_key(struct nardsill_ask *ask, const uint8_t *key, size_t len) {
 
 static struct nardsill_given next_locked(nardsill *index, struct nardsill_token token) {
     errno = 0;
-    return nardsill_proved_next(index->shell, token);
+    struct nardsill_given given = nardsill_proved_next(index->shell, token);
+    note_failure(index, given.status);
+    return given;
 }
 
 static struct outcome told_given(const struct nardsill_given *given) {
@@ -1147,7 +1170,10 @@ static void commit_all(nardsill *index) {
     struct nardsill_answer answer = ask_locked(index, (struct nardsill_ask){.what = NARDSILL_COMMIT});
     struct outcome outcome = told_by(answer);
     /* A sync or a part that failed stops the index, and the commit is told that alone. */
-    if (error) outcome = (struct outcome){.status = NARDSILL_IO, .error = error};
+    if (error) {
+        outcome = (struct outcome){.status = NARDSILL_IO, .error = error};
+        index->cause = error;
+    }
     all->is_forcing = 0;
     all->passing = all->held;
     all->held = 0;
@@ -1196,17 +1222,29 @@ int nardsill_checkpoint(nardsill *index, uint64_t *actions) {
     return leave_with(kept, checkpoint(index, actions));
 }
 
+/* Whether the index has stopped. The library tells it of its log alone; behind a call of the file that failed a checkpoint shows whether
+   the file still takes any. */
+static int has_stopped_locked(nardsill *index) {
+    if (index->is_doubtful) wait_for_force(index);
+    int is_sure = index->has_stopped || nardsill_proved_info(index->shell).is_stopped;
+    if (is_sure || !index->is_doubtful) return is_sure;
+    int has_failed = ask_locked(index, (struct nardsill_ask){.what = NARDSILL_CHECKPOINT}).status != 0;
+    index->is_doubtful = has_failed;
+    return has_failed;
+}
+
 int nardsill_info(nardsill *index, nardsill_details *out) {
     int status = !out || out->size != sizeof *out ? NARDSILL_MISUSE : refusal_of(index);
     if (status) return refused(status);
     struct kept kept = enter();
     take_lock(index);
+    int has_stopped = has_stopped_locked(index);
     struct nardsill_facts facts = nardsill_proved_info(index->shell);
     uint32_t scans = index->count;
     pthread_mutex_unlock(&index->lock);
     if (!facts.status)
         *out = (nardsill_details){out->size, facts.items, facts.pages, facts.log_bytes, facts.is_unique, facts.pages_used, facts.pages_free,
-                                  index->frames, scans, facts.is_stopped};
+                                  index->frames, scans, has_stopped};
     return leave_with(kept, only((int)facts.status));
 }
 
@@ -1356,7 +1394,7 @@ static struct outcome judge(int fd, uint32_t frames, nardsill_report *out) {
 static struct outcome check(const char *path, uint32_t frames, nardsill_report *out) {
     int fd;
     if (!hold_forks()) return only(NARDSILL_NO_MEMORY);
-    struct outcome outcome = open_file(path, 0, &fd);
+    struct outcome outcome = open_file(path, O_RDWR, &fd);
     if (!outcome.status) {
         outcome = judge(fd, frames, out);
         close_unlocked(fd);

@@ -129,6 +129,80 @@ static void first_rows(nardsill *index) {
     HOLDS(row.block == 6 && row.offset == 8);
     high[63] = 254;
     IS(NARDSILL_NOT_FOUND, nardsill_get(index, high, 64, &row));
+    /* A key isn't the longer one that begins so. */
+    memset(high, 'y', 64);
+    IS(0, nardsill_insert(index, high, 64, row_of(5, 8), 0));
+    IS(NARDSILL_NOT_FOUND, nardsill_get(index, high, 63, &row));
+    HOLDS(row.block == 6 && row.offset == 8);
+}
+
+/* A call that goes well, and a scan's end, leave errno and the last fault as they were. */
+#define LEAVES(want, call)                                        \
+    do {                                                          \
+        errno = 77;                                               \
+        IS(want, call);                                           \
+        IS(77, errno);                                            \
+        IS(NARDSILL_MISUSE, nardsill_last_fault()->status);       \
+    } while (0)
+
+static void what_is_left(void) {
+    nardsill *index;
+    nardsill_scan *scan;
+    nardsill_entry entry = {{2, 2}, 1, "b"};
+    nardsill_row row;
+    nardsill_stats stats = NARDSILL_STATS;
+    nardsill_report report = NARDSILL_REPORT;
+    nardsill_details details = NARDSILL_DETAILS;
+    size_t count;
+    remove(PATH);
+    remove("test-copy.idx");
+    /* A wrong argument is a refusal as others are, in whatever call it is seen. */
+    index = made(PATH, 0);
+    IS(0, insert(index, "a", 1, 1));
+    IS(NARDSILL_EXISTS, insert(index, "a", 1, 1));
+    IS(NARDSILL_EXISTS, nardsill_last_fault()->status);
+    IS(0, nardsill_close(index));
+    IS(NARDSILL_MISUSE, nardsill_commit(0, 0));
+    remove(PATH);
+    LEAVES(0, nardsill_create(PATH, 0));
+    LEAVES(0, nardsill_open(PATH, 0, &index));
+    LEAVES(0, insert(index, "a", 1, 1));
+    LEAVES(0, nardsill_insert_many(index, &entry, 1, 0));
+    LEAVES(0, nardsill_get(index, "a", 1, &row));
+    LEAVES(0, nardsill_scan_open(index, 0, 0, 0, 0, &scan));
+    LEAVES(0, nardsill_scan_next(scan, &entry));
+    LEAVES(NARDSILL_DONE, nardsill_scan_read(scan, &entry, 2, &count));
+    LEAVES(0, nardsill_scan_restart(scan, 0, 0, "a", 1));
+    LEAVES(NARDSILL_DONE, nardsill_scan_next(scan, &entry));
+    errno = 77;
+    nardsill_scan_close(scan);
+    IS(77, errno);
+    LEAVES(0, nardsill_scan_open_prefix(index, "a", 1, &scan));
+    nardsill_scan_close(scan);
+    LEAVES(0, nardsill_set_patience(index, 1));
+    LEAVES(0, nardsill_delete_rows(index, &row, 1, &stats));
+    LEAVES(0, nardsill_vacuum(index, &stats));
+    LEAVES(0, nardsill_commit(index, 0));
+    LEAVES(0, nardsill_checkpoint(index, 0));
+    LEAVES(0, nardsill_info(index, &details));
+    LEAVES(0, nardsill_copy(index, "test-copy.idx", 0, 0, 0, 0));
+    LEAVES(0, nardsill_close(index));
+    LEAVES(0, nardsill_check(PATH, 0, &report));
+    remove("test-copy.idx");
+    /* Another refusal that isn't of the file leaves errno too. */
+    index = made(PATH, 0);
+    errno = 77;
+    IS(NARDSILL_BAD_ROW, insert(index, "a", 1, 0));
+    IS(NARDSILL_NOT_FOUND, nardsill_get(index, "a", 1, &row));
+    IS(77, errno);
+    IS(NARDSILL_NOT_FOUND, nardsill_last_fault()->status);
+    /* Each call that sees a wrong argument tells it so. */
+    IS(NARDSILL_MISUSE, nardsill_insert(index, 0, 1, row, 0));
+    IS(NARDSILL_MISUSE, nardsill_last_fault()->status);
+    IS(NARDSILL_NOT_FOUND, nardsill_get(index, "a", 1, &row));
+    IS(NARDSILL_MISUSE, nardsill_get(index, 0, 1, &row));
+    IS(NARDSILL_MISUSE, nardsill_last_fault()->status);
+    IS(0, nardsill_close(index));
 }
 
 static void ranges(void) {
@@ -430,6 +504,7 @@ int main(void) {
     ended_child();
     ranges();
     pages();
+    what_is_left();
     durability();
     checks();
     unique_index();

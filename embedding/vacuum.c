@@ -1,6 +1,7 @@
 /* Vacuums beside other calls: what they delete and what they leave, whom they keep waiting, and how long they wait for scans. */
 #define _GNU_SOURCE
 #include "testing.h"
+#include <malloc.h>
 #include <pthread.h>
 #include <stdatomic.h>
 #include <sys/types.h>
@@ -17,7 +18,10 @@ enum { IS_WATCHED = 1 };
 enum { IS_WATCHED = 0 };
 #endif
 
-enum { MANY = 100000, FEW = 25000, INSERTERS = 2, SCANNERS = 2, DEAD = 1, LIVE = 2, INSERTED = 3, LONG = 20000 };
+enum { MANY = 100000, FEW = 25000, INSERTERS = 2, SCANNERS = 2, DEAD = 1, LIVE = 2, INSERTED = 3 };
+
+/* A patience that is never over here. In nanoseconds its lowest 32 bits tell less than a millisecond. */
+enum { LONG = 21475 };
 
 static const nardsill_limits limits = {sizeof limits, 50, 32768, 1 << 22, 0}, few_pages = {sizeof limits, 50, 64, 65536, 0};
 static const nardsill_limits small_log = {sizeof limits, 50, 4096, 65536, 0};
@@ -400,6 +404,24 @@ static void in_turn(void) {
     ends(&one, 0, 1);
     ends(&two, 0, 1);
     is_sound(index, 8);
+}
+
+/* The bytes that are taken of the heap. */
+static size_t taken(void) {
+    struct mallinfo2 now = mallinfo2();
+    return now.uordblks + now.hblkhd;
+}
+
+/* The rows of a bulk delete are freed as it ends. (A sanitizer has a heap of its own, of which nothing is told here.) */
+static void frees_its_rows(void) {
+    nardsill *index = made(PATH, &limits);
+    name_rows(1);
+    fill(index, 100, 1);
+    IS(0, nardsill_delete_rows(index, rows, 1, 0));
+    size_t before = taken();
+    IS(0, nardsill_delete_rows(index, rows, MANY, 0));
+    HOLDS(taken() < before + MANY);
+    is_sound(index, 0);
 }
 
 static void is_over(int status) { HOLDS(status == NARDSILL_STOPPED || status == NARDSILL_IO); }
@@ -808,6 +830,7 @@ int main(void) {
     IN_A_MINUTE(many_scans());
     IN_A_MINUTE(in_turn());
     IN_A_MINUTE(at_once());
+    IN_A_MINUTE(frees_its_rows());
     IN_A_MINUTE(writes_fail());
     IN_A_MINUTE(stops_meanwhile());
     IN_A_MINUTE(beside_commits(1));
