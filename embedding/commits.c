@@ -38,8 +38,9 @@ static uint64_t longest;
 static _Thread_local int is_beside;
 /* Whether waits with an end last until they are rung. */
 static atomic_int is_held;
-/* Whether a sync runs, or a write that is held. A thread that finds the lock taken is kept from it, and whether it is there. */
-static atomic_int is_syncing, is_kept, is_there;
+/* Whether a sync runs, or a write that is held. A thread that finds the lock taken is kept from it, and whether it is there. One that was
+   woken comes late to the lock. */
+static atomic_int is_syncing, is_kept, is_there, is_late;
 static pthread_t kept;
 
 int __real_fdatasync(int fd);
@@ -152,6 +153,11 @@ int __wrap_pthread_cond_wait(pthread_cond_t *bell, pthread_mutex_t *lock) {
     waits++;
     waiting++;
     int status = __real_pthread_cond_wait(bell, lock);
+    if (is_late && pthread_equal(kept, pthread_self())) {
+        pthread_mutex_unlock(lock);
+        while (is_late) usleep(100);
+        __real_pthread_mutex_lock(lock);
+    }
     waiting--;
     return status;
 }
@@ -443,6 +449,7 @@ static void before_the_next(void) {
     struct committer all[2];
     start(all, 2, index);
     all[1].inserts_alone = 1;
+    kept = all[1].thread;
     for (int round = 0; round < 20; round++) {
         unsigned ticks = 0, first = syncs + 1;
         held_sync = first;
@@ -451,7 +458,14 @@ static void before_the_next(void) {
         while (!is_syncing || syncs != first) tick(&ticks);
         send(all + 1);
         wait_until(1);
+        is_late = 1;
         held_sync = first + 2;
+        /* Though it comes late, the next commit waits for it. */
+        while (waiting != 2) {
+            tick(&ticks);
+            HOLDS(syncs < first + 2);
+        }
+        is_late = 0;
         succeeded(all + 1);
         wait_for(&all[0].done);
         while (!is_syncing || syncs != first + 2) tick(&ticks);

@@ -6,6 +6,7 @@
 #include <signal.h>
 #include <stdatomic.h>
 #include <sys/file.h>
+#include <sys/stat.h>
 #include <sys/types.h>
 #include <sys/wait.h>
 #include <unistd.h>
@@ -334,6 +335,32 @@ static void forks_and_kills(void) {
     unlink(COPY);
 }
 
+/* The mode of a copy that is made so, of an index with this one. */
+static unsigned mode_of_copy(nardsill *index, mode_t mode, mode_t mask) {
+    struct stat there;
+    IS(0, chmod(PATH, mode));
+    mode_t before = umask(mask);
+    IS(0, nardsill_copy(index, COPY, 0, 0, 0, 0));
+    umask(before);
+    IS(0, stat(COPY, &there));
+    unlink(COPY);
+    return there.st_mode & 07777;
+}
+
+/* A copy has the mode of its index without what the umask takes, as a file that cp makes. So it is if a draft was left with another. */
+static void modes(void) {
+    nardsill *index = filled(0, 100);
+    IS(0600, mode_of_copy(index, 0600, 022));
+    IS(0640, mode_of_copy(index, 0640, 022));
+    IS(0644, mode_of_copy(index, 0666, 022));
+    IS(0600, mode_of_copy(index, 0666, 077));
+    mode_t before = umask(0);
+    close(open(DRAFT, O_RDWR | O_CREAT | O_CLOEXEC, 0666));
+    umask(before);
+    IS(0600, mode_of_copy(index, 0600, 022));
+    IS(0, nardsill_close(index));
+}
+
 /* A copy is given up by whoever is told how far it is. An index that stopped gives no copy; a handle of a parent's neither. */
 static void stopped(void) {
     nardsill *index = filled(0, ALL);
@@ -363,6 +390,7 @@ int main(void) {
     IN_A_MINUTE(sizes());
     IN_A_MINUTE(failures(0));
     IN_A_MINUTE(failures(1));
+    IN_A_MINUTE(modes());
     IN_A_MINUTE(others_insert());
     IN_A_MINUTE(forks_and_kills());
     IN_A_MINUTE(stopped());

@@ -3,6 +3,7 @@
 #include "testing.h"
 #include <dirent.h>
 #include <fcntl.h>
+#include <stdarg.h>
 #include <sys/file.h>
 #include <sys/stat.h>
 #include <sys/types.h>
@@ -87,13 +88,17 @@ int __wrap_close(int fd) {
 }
 
 int __wrap_open(const char *path, int flags, ...) {
+    va_list more;
+    va_start(more, flags);
+    mode_t mode = flags & O_CREAT ? va_arg(more, mode_t) : 0;
+    va_end(more);
     if (!(flags & O_CLOEXEC)) shared_opens++;
     if (!strncmp(path, "/proc/", 6)) {
         if (no_second) return refuse(no_second);
         seconds++;
         writable_seconds += (flags & O_ACCMODE) != O_RDONLY;
     }
-    return __real_open(path, flags, 0666);
+    return __real_open(path, flags, mode);
 }
 
 int __wrap_fstatfs(int fd, struct statfs *where) {

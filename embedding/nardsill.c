@@ -218,9 +218,12 @@ static void close_unlocked(int fd) {
     errno = error;
 }
 
+/* What a new file has, beside the umask. */
+enum { ANY_MODE = 0666 };
+
 /* Opens a file for this library alone. It never has the number of a standard stream, on which something else may write. */
-static struct outcome open_file(const char *path, int flags, int *fd) {
-    int low = open(path, O_CLOEXEC | O_NOCTTY | flags, 0666);
+static struct outcome open_file(const char *path, int flags, mode_t mode, int *fd) {
+    int low = open(path, O_CLOEXEC | O_NOCTTY | flags, mode);
     *fd = low;
     if (low < 0) return system_failed();
     if (low > 2) return only(0);
@@ -304,13 +307,22 @@ static struct outcome make(int fd, struct nardsill_make_ask ask) {
     return outcome;
 }
 
-/* Opens a draft that is nobody else's, and locks it. */
-static struct outcome open_draft(const char *draft, int *fd) {
+/* A draft that was left may be open to more than a new one would be. Where its file system knows no modes it stays as it is. */
+static struct outcome narrow(int fd, mode_t mode) {
+    struct stat held;
+    if (fstat(fd, &held)) return system_failed();
+    if (held.st_mode & 0777 & ~mode) (void)!fchmod(fd, held.st_mode & mode);
+    return only(0);
+}
+
+/* Opens a draft that is nobody else's, with this mode at most, and locks it. */
+static struct outcome open_draft(const char *draft, mode_t mode, int *fd) {
     struct outcome outcome = let_whole_go(draft);
-    if (!outcome.status) outcome = open_file(draft, O_RDWR | O_CREAT | O_NOFOLLOW, fd);
+    if (!outcome.status) outcome = open_file(draft, O_RDWR | O_CREAT | O_NOFOLLOW, mode, fd);
     if (outcome.status) return outcome;
     outcome = lock(*fd);
     if (!outcome.status) outcome = is_draft(*fd, draft);
+    if (!outcome.status) outcome = narrow(*fd, mode);
     if (outcome.status) close_unlocked(*fd);
     return outcome;
 }
@@ -318,7 +330,7 @@ static struct outcome open_draft(const char *draft, int *fd) {
 /* Makes an index in the draft's file, and gives it its own name once it is whole. */
 static struct outcome create_by(const char *draft, const char *path, struct nardsill_make_ask ask) {
     int fd;
-    struct outcome outcome = open_draft(draft, &fd);
+    struct outcome outcome = open_draft(draft, ANY_MODE, &fd);
     if (outcome.status) return outcome;
     outcome = make(fd, ask);
     if (!outcome.status) outcome = place_durably(draft, path);
@@ -435,7 +447,7 @@ static int open_beside(int fd) {
     int beside;
     if (is_served(fd)) return fd;
     spell_path(fd, anew);
-    return open_file(anew, O_RDONLY, &beside).status ? fd : beside;
+    return open_file(anew, O_RDONLY, 0, &beside).status ? fd : beside;
 }
 
 /* Opens the index in a file of this library's own, in a handle that has no index yet. */
@@ -505,7 +517,7 @@ static struct outcome end_making(int fd, const char *path) {
 static struct outcome open_index(const char *path, int is_path, uint32_t frames, nardsill **out) {
     int fd;
     if (!hold_forks()) return only(NARDSILL_NO_MEMORY);
-    struct outcome outcome = open_file(path, O_RDWR, &fd);
+    struct outcome outcome = open_file(path, O_RDWR, 0, &fd);
     if (!outcome.status) {
         outcome = start(fd, frames, out);
         if (!outcome.status && is_path) outcome = end_making(fd, path);
@@ -1312,10 +1324,12 @@ static struct outcome copy_all(nardsill *index, struct copying *copying) {
     return outcome.status == NARDSILL_DONE ? checkpoint(copying->into, 0) : outcome;
 }
 
-/* Makes the draft of a copy, and opens the index in it. */
-static struct outcome begin_copy(const char *draft, struct nardsill_make_ask ask, nardsill **into) {
+/* Makes the draft of a copy, with the mode of the old file, and opens the index in it. */
+static struct outcome begin_copy(nardsill *index, const char *draft, struct nardsill_make_ask ask, nardsill **into) {
     int fd;
-    struct outcome outcome = open_draft(draft, &fd);
+    struct stat old;
+    if (fstat(index->descriptor, &old)) return system_failed();
+    struct outcome outcome = open_draft(draft, old.st_mode & 0777, &fd);
     if (outcome.status) return outcome;
     outcome = make(fd, ask);
     if (!outcome.status) outcome = start(fd, COPY_FRAMES, into);
@@ -1331,7 +1345,7 @@ static struct outcome begin_copy(const char *draft, struct nardsill_make_ask ask
 /* The draft gets its own name once all is in it, and is gone if not. No fork comes while it is opened and placed. */
 static struct outcome copy_by(nardsill *index, const char *draft, const char *path, struct nardsill_make_ask ask, struct copying *copying) {
     if (!hold_forks()) return only(NARDSILL_NO_MEMORY);
-    struct outcome outcome = begin_copy(draft, ask, &copying->into);
+    struct outcome outcome = begin_copy(index, draft, ask, &copying->into);
     let_forks();
     if (outcome.status) return outcome;
     outcome = copy_all(index, copying);
@@ -1394,7 +1408,7 @@ static struct outcome judge(int fd, uint32_t frames, nardsill_report *out) {
 static struct outcome check(const char *path, uint32_t frames, nardsill_report *out) {
     int fd;
     if (!hold_forks()) return only(NARDSILL_NO_MEMORY);
-    struct outcome outcome = open_file(path, O_RDWR, &fd);
+    struct outcome outcome = open_file(path, O_RDWR, 0, &fd);
     if (!outcome.status) {
         outcome = judge(fd, frames, out);
         close_unlocked(fd);

@@ -20,6 +20,13 @@ extern "C" {
 #define NARDSILL_LOOK
 #endif
 
+/* A function that a call calls throws nothing: from C++17 on that stands in its type. */
+#if defined(__cplusplus) && __cplusplus >= 201703L
+#define NARDSILL_NOEXCEPT noexcept
+#else
+#define NARDSILL_NOEXCEPT
+#endif
+
 /* A key has so many bytes at most. Keys are ordered by their bytes, a beginning before what it begins. */
 #define NARDSILL_KEY_MAX 64
 
@@ -153,8 +160,8 @@ NARDSILL_LOOK int nardsill_checkpoint(nardsill *index, uint64_t *actions);
    scan are; with NARDSILL_INDEX_FULL if they don't fit, and with NARDSILL_KEY_EXISTS if the new one is unique and two have one key.
    `progress`, if it isn't null, is told how many are copied so far. It may make other calls, but close neither the index nor the process's
    files. If it answers another number than 0, the copy is given up: NARDSILL_GIVEN_UP. */
-NARDSILL_LOOK int nardsill_copy(nardsill *index, const char *path, const nardsill_limits *limits, int (*progress)(void *context, uint64_t copied),
-                                void *context, uint64_t *copied);
+NARDSILL_LOOK int nardsill_copy(nardsill *index, const char *path, const nardsill_limits *limits,
+                                int (*progress)(void *context, uint64_t copied) NARDSILL_NOEXCEPT, void *context, uint64_t *copied);
 
 /* What the index is, now. */
 NARDSILL_LOOK int nardsill_info(nardsill *index, nardsill_details *out);

@@ -39,14 +39,25 @@ class Commits(Room):
 
     @unittest.skipUnless(IO.exists(), "without /proc/self/io nobody counts what commits share")
     def test_commits_that_share_a_force(self):
-        """A force writes twice at least, so eight commits that share none write sixteen times. The best of some runs counts: other work on
-        the machine may part them."""
+        """A force writes twice at least, so eight commits that share none write sixteen times. They come together: behind batches, of which
+        each keeps the others from the lock for a while. So they do where a sync takes no time. The best of some runs counts: other work
+        on the machine may part them."""
         shares = []
         for turn in range(20):
-            index = self.opened(f"{self.path}.{turn}")
-            before = writes()
-            self.insert_and_commit(index, 8, 50)
-            shares.append((writes() - before) / 400)
+            nardsill.create(f"{self.path}.{turn}", log_bytes=1 << 24)
+            index = nardsill.Index(f"{self.path}.{turn}", 1024)
+            batches = [[[(b"%d %d %d" % (number, at, k), (at, number + 1)) for k in range(100)] for at in range(25)] for number in range(8)]
+            together, before = threading.Barrier(8), writes()
+
+            def work(mine):
+                for batch in mine:
+                    together.wait()
+                    index.insert_many(batch)
+                    index.commit()
+
+            run_all(*(lambda mine=mine: work(mine) for mine in batches))
+            shares.append((writes() - before) / 200)
+            index.close()
             if shares[-1] < 1:
                 break
         self.assertLess(min(shares), 1)
