@@ -35,7 +35,7 @@ enum {
     NARDSILL_OK = 0,
     NARDSILL_NO_MEMORY = 1,
     NARDSILL_IO = 2,               /* a call of the file failed: `error` of the fault, and errno, say why */
-    NARDSILL_STOPPED = 3,          /* one failed before: close the index and open it again */
+    NARDSILL_STOPPED = 3,          /* one failed before, `error` says why: close the index and open it again */
     NARDSILL_BLOCKED = 4,          /* an open scan stands on a page that a vacuum needs, longer than its patience: `page` of the fault */
     NARDSILL_EXISTS = 5,           /* this very entry, its key and its row, is there */
     NARDSILL_KEY_TOO_LONG = 6,
@@ -67,17 +67,20 @@ typedef struct nardsill_scan nardsill_scan; /* an open scan of it: 63 at most */
 typedef struct { uint32_t block; uint16_t offset; } nardsill_row;
 typedef struct { nardsill_row row; uint8_t key_len; uint8_t key[NARDSILL_KEY_MAX]; } nardsill_entry;
 
-/* Why the last refused call of this thread was refused. The library may add fields behind these. */
+/* Why the last refused call of this thread was refused. NARDSILL_DONE is no refusal. The library may add fields behind these. */
 typedef struct {
     int status;
-    int error;        /* of NARDSILL_IO: why, a number of errno */
+    int error;        /* of NARDSILL_IO and NARDSILL_STOPPED: why a call of the file failed, a number of errno, or 0 */
     uint32_t page;    /* of NARDSILL_BLOCKED and NARDSILL_PAGE_DAMAGED, else 0 */
     nardsill_row row; /* of NARDSILL_KEY_EXISTS, else zeros */
 } nardsill_fault;
 
 /* It is this thread's alone, stands until the next call of this thread is refused, and is never null. Its status is 0 before the first.
-   It is memory that may be written, so that who interrupts a thread can put it back. */
+   It is memory that may be written, so that who interrupts a thread can put it back. Each call that doesn't answer NARDSILL_IO leaves errno
+   as it was. */
 const nardsill_fault *nardsill_last_fault(void);
+
+/* A call uses 96 KB of its thread's stack at most: a thread that makes calls has 128 KB or more. */
 
 /* Each of these structs begins with its size, as its macro sets it: so a later version may add fields behind. */
 
@@ -103,7 +106,7 @@ typedef struct {
 #define NARDSILL_REPORT {sizeof(nardsill_report), 0, 0, 0, 0, 0, 0, 0, 0}
 
 /* What an open index is: its limits; pages in use, and of these those that may be used again; pages in memory at most; open scans; and
-   whether it has stopped: 1 where each call is refused with NARDSILL_STOPPED until it is opened again. */
+   whether it has stopped: 1 where a write or a sync of the file has failed, and calls are refused until it is opened again. */
 typedef struct {
     uint32_t size;
     uint32_t items, pages, log_bytes, unique;
@@ -112,7 +115,8 @@ typedef struct {
 } nardsill_details;
 #define NARDSILL_DETAILS {sizeof(nardsill_details), 0, 0, 0, 0, 0, 0, 0, 0, 0}
 
-/* Makes an empty index in a new file, which is at the path only once it is whole. Null limits are those of NARDSILL_LIMITS. */
+/* Makes an empty index in a new file, which is at the path only once it is whole. Null limits are those of NARDSILL_LIMITS. Until then
+   ".nardsill-draft" stands behind its name: so that has 240 bytes at most on most file systems. */
 NARDSILL_LOOK int nardsill_create(const char *path, const nardsill_limits *limits);
 
 /* Opens the index in a file, after any crash, with so many pages in memory, 16 to 1,024; 0 stands for 64. A refusal sets *out to null. */
@@ -126,7 +130,8 @@ NARDSILL_LOOK int nardsill_open_fd(int fd, uint32_t frames, nardsill **out);
    closed. */
 NARDSILL_LOOK int nardsill_close(nardsill *index);
 
-/* Adds an entry. `action` is its number; all numbers up to what a commit tells are durable. */
+/* Adds an entry. `action` is its number; all numbers up to what a commit tells are durable. Where it is refused, a number or a struct that
+   a call would tell stays as it was. Where the log is full an insert, or a part of a vacuum, makes a checkpoint before: see there. */
 NARDSILL_LOOK int nardsill_insert(nardsill *index, const void *key, size_t key_len, nardsill_row row, uint64_t *action);
 
 /* Adds entries up to the first that is refused; `done` is how many are in. */
@@ -150,7 +155,7 @@ NARDSILL_LOOK int nardsill_set_patience(nardsill *index, uint32_t milliseconds);
 
 /* Makes all that was done durable; `actions` is how many were since the opening. A checkpoint writes the pages home too. Commits of
    threads share a sync: one may wait for those that it shared the last one with, 20 ms at most. While a commit syncs, calls that only
-   read go on, and the others wait. */
+   read go on, and the others wait. While a checkpoint writes and syncs, four times, all others wait: also where it comes by itself. */
 NARDSILL_LOOK int nardsill_commit(nardsill *index, uint64_t *actions);
 NARDSILL_LOOK int nardsill_checkpoint(nardsill *index, uint64_t *actions);
 
@@ -159,11 +164,12 @@ NARDSILL_LOOK int nardsill_checkpoint(nardsill *index, uint64_t *actions);
    these are. Other calls go on meanwhile: of what they insert or delete any part may be in the copy. Refused as nardsill_create and a
    scan are; with NARDSILL_INDEX_FULL if they don't fit, and with NARDSILL_KEY_EXISTS if the new one is unique and two have one key.
    `progress`, if it isn't null, is told how many are copied so far. It may make other calls, but close neither the index nor the process's
-   files. If it answers another number than 0, the copy is given up: NARDSILL_GIVEN_UP. */
+   files, and it returns: by an exception or a longjmp out of it the copy's scan, its draft and the draft's lock would stay. If it answers
+   another number than 0, the copy is given up: NARDSILL_GIVEN_UP. The new file has the mode of this one's, less the umask, as by cp. */
 NARDSILL_LOOK int nardsill_copy(nardsill *index, const char *path, const nardsill_limits *limits,
                                 int (*progress)(void *context, uint64_t copied) NARDSILL_NOEXCEPT, void *context, uint64_t *copied);
 
-/* What the index is, now. */
+/* What the index is, now. Behind a call of the file that failed it may make a checkpoint, which shows whether the index has stopped. */
 NARDSILL_LOOK int nardsill_info(nardsill *index, nardsill_details *out);
 
 /* The entries from `from` on and below `below`; a null end is open. */
