@@ -185,7 +185,9 @@ static void syncs(void) {
     IS(1, details.stopped);
     /* It has stopped, whatever the file would answer now. */
     IS(NARDSILL_STOPPED, nardsill_commit(index, &actions));
+    IS(EIO, nardsill_last_fault()->error);
     IS(NARDSILL_STOPPED, insert(index, "c", 1, 1));
+    IS(EIO, nardsill_last_fault()->error);
     IS(1000 + NARDSILL_STOPPED, count(index, &entries));
     IS(NARDSILL_STOPPED, nardsill_get(index, "a", 1, &row));
     IS(NARDSILL_STOPPED, nardsill_vacuum(index, 0));
