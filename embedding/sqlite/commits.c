@@ -152,11 +152,11 @@ static void foreign_key(void) {
 static void two_indexes(void) {
     unlink("second.idx");
     begin_case("");
-    run(db, "create virtual table u using nardsill('second.idx'); insert into u values ('x', 1, 1), ('y', 1, 1)");
+    run(db, "create virtual table u using nardsill('second.idx', pages=8); insert into u values ('x', 1, 1), ('y', 1, 1)");
     run(db, "begin");
     run(db, changes);
-    run(db, "delete from u where key = 'x'");
-    refuses(db, "commit", SQLITE_CONSTRAINT, "row (1,1) has another entry, of key 'y': delete it in the same transaction");
+    run(db, "with recursive n(i) as (select 1 union all select i + 1 from n where i < 3000) insert into u select printf('k%06d', i), i + 100, 1 from n");
+    refuses(db, "commit", SQLITE_FULL, "second.idx: ");
     TRUE(sqlite3_get_autocommit(db));
     ROWS(db, "select * from u", "x|1|1,y|1|1");
     run(db, "drop table u");

@@ -398,7 +398,6 @@ static void compare_queries(const char *type, int count) {
 /* The virtual table's connection, and that of an ordinary table with the same constraints. */
 static sqlite3 *of_table, *of_ordinary;
 static int is_unique;
-static answer committed; /* rows */
 
 static void put_small_key(void) {
     static const char *const keys[] = {"a", "ab", "b", "", "c", "\303\251", "d", "ca"};
@@ -474,20 +473,6 @@ static answer all_rows(sqlite3 *db, const char *table) {
     return a;
 }
 
-static int has_row(const answer *a, const char *row) { return a->count && bsearch(&row, a->rows, (size_t)a->count, sizeof row, compare_texts) != 0; }
-
-/* Whether a commit must be refused: of a row's entries, one goes and another stays. */
-static int must_refuse(answer *now) {
-    sort_rows(now);
-    for (int i = 0; i < committed.count; i++) {
-        if (has_row(now, committed.rows[i])) continue;
-        const char *row = strchr(committed.rows[i], ' ');
-        for (int k = 0; k < committed.count; k++)
-            if (!strcmp(strchr(committed.rows[k], ' '), row) && has_row(now, committed.rows[k])) return 1;
-    }
-    return 0;
-}
-
 static void compare_all(void) {
     answer table = all_rows(of_table, "t"), ordinary = all_rows(of_ordinary, "o");
     if (!is_same(&table, &ordinary, 1)) tell_difference(&table, &ordinary);
@@ -498,55 +483,15 @@ static void compare_all(void) {
 
 static int exec(sqlite3 *db, const char *text) { return sqlite3_exec(db, text, 0, 0, 0); }
 
-/* Notes what is committed. */
-static void note_committed(void) {
-    free_answer(&committed);
-    committed = all_rows(of_ordinary, "o");
-    sort_rows(&committed);
-}
-
 /* Ends both transactions by a commit. */
-static int commit_both(const char *text, int *refused) {
-    answer now = all_rows(of_ordinary, "o");
-    int is_refused = must_refuse(&now), status = exec(of_table, text);
-    free_answer(&now);
-    if (is_refused != (status == SQLITE_CONSTRAINT) || (status && !is_refused)) {
-        fprintf(stderr, "commit: status %d %s, and must be refused: %d\n", status, sqlite3_errmsg(of_table), is_refused);
-        exit(1);
-    }
-    *refused += is_refused;
-    TRUE(!exec(of_ordinary, is_refused ? "rollback" : text));
-    /* After a release that is refused SQLite leaves a transaction open that has nothing in it. */
-    if (is_refused && !sqlite3_get_autocommit(of_table)) run(of_table, "rollback");
+static void commit_both(const char *text) {
+    run(of_table, text);
+    run(of_ordinary, text);
     TRUE(sqlite3_get_autocommit(of_table));
-    note_committed();
-    return is_refused;
 }
 
-/* A statement of its own is a transaction: so the ordinary table's is committed when the other one's is. */
-static void change_alone(int *refused) {
-    TRUE(!exec(of_ordinary, "begin"));
-    answer ordinary = ask(of_ordinary, "o"), now = all_rows(of_ordinary, "o");
-    int is_refused = !ordinary.status && must_refuse(&now);
-    answer table = ask(of_table, "t");
-    /* What `or fail` leaves of a failed statement is committed too. */
-    if (ordinary.status && must_refuse(&now)) is_refused = table.status != 0;
-    if (!is_refused && !table.status != !ordinary.status) tell_difference(&table, &ordinary);
-    TRUE(!is_refused || table.status == SQLITE_CONSTRAINT);
-    if (!sqlite3_get_autocommit(of_ordinary)) TRUE(!exec(of_ordinary, is_refused ? "rollback" : "commit"));
-    *refused += is_refused;
-    free_answer(&ordinary);
-    free_answer(&table);
-    free_answer(&now);
-    note_committed();
-}
-
-static void change_both(int *refused) {
+static void change_both(void) {
     put_change();
-    if (sqlite3_get_autocommit(of_table)) {
-        change_alone(refused);
-        return;
-    }
     answer table = ask(of_table, "t"), ordinary = ask(of_ordinary, "o");
     /* An update may replace a row that it was to change later: the virtual table's count has that one too. */
     int is_counted = strstr(sql, "or replace") || sqlite3_changes(of_table) == sqlite3_changes(of_ordinary);
@@ -581,7 +526,7 @@ static void change_schema(void) {
 }
 
 /* A savepoint's begin, its end, or the way back to it. */
-static void at_savepoint(int *refused) {
+static void at_savepoint(void) {
     char text[60];
     if (once_in(3)) change_schema();
     if (!open_savepoints || once_in(2)) {
@@ -591,7 +536,7 @@ static void at_savepoint(int *refused) {
         snprintf(text, sizeof text, is_back ? "rollback to s%d" : "release s%d", which);
         open_savepoints = is_back ? which + 1 : which;
         if (!which && !is_back && is_first_the_transaction) {
-            commit_both(text, refused);
+            commit_both(text);
             return;
         }
     }
@@ -606,31 +551,30 @@ static void open_again(const char *type) {
     open_table(type);
 }
 
-static void take_step(const char *type, int *refused) {
+static void take_step(const char *type) {
     int is_open = !sqlite3_get_autocommit(of_table);
     if (!is_open) open_savepoints = is_first_the_transaction = 0;
     switch (roll(16)) {
     case 0:
         if (!is_open) run(of_table, "begin"), run(of_ordinary, "begin");
-        else commit_both("commit", refused);
+        else commit_both("commit");
         break;
     case 1:
         if (is_open) run(of_table, "rollback"), run(of_ordinary, "rollback");
         break;
     case 2: case 3:
-        if (is_open) at_savepoint(refused);
+        if (is_open) at_savepoint();
         break;
     case 4:
         if (!is_open && once_in(4)) open_again(type);
         else if (!is_open) run(of_table, "savepoint s0"), run(of_ordinary, "savepoint s0"), is_first_the_transaction = open_savepoints = 1;
         else change_schema();
         break;
-    default: change_both(refused);
+    default: change_both();
     }
 }
 
 static void compare_transactions(const char *type, int unique, int count) {
-    int refused = 0;
     is_blob = !strcmp(type, "blob");
     is_unique = unique;
     unlink("differ.idx");
@@ -642,9 +586,8 @@ static void compare_transactions(const char *type, int unique, int count) {
                                  type, type, unique ? ", unique(key)" : "");
     run(of_ordinary, make);
     sqlite3_free(make);
-    note_committed();
     for (int i = 0; i < count; i++) {
-        take_step(type, &refused);
+        take_step(type);
         compare_all();
         use_left();
     }
@@ -657,9 +600,7 @@ static void compare_transactions(const char *type, int unique, int count) {
     ROWS(of_table, "select nardsill_check('differ.idx') like 'ok %'", "1");
     sqlite3_close(of_table);
     sqlite3_close(of_ordinary);
-    free_answer(&committed);
-    committed = (answer){0};
-    printf("%s%s: %d steps, no difference; %s\n", unique ? "unique " : "", type, count, refused ? "some commits refused" : "no commit refused");
+    printf("%s%s: %d steps, no difference\n", unique ? "unique " : "", type, count);
 }
 
 /* ---- Tables that are made in a transaction ---- */

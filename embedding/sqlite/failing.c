@@ -1,5 +1,5 @@
-/* Refuses each call that changes the index in turn, in the middle of a commit: afterwards the index is as it was before. It is linked with
- * the table and the library, and with `--wrap` of the calls below. */
+/* Refuses each call that changes the index in turn, in the middle of a commit. Before the database is committed the index is as it was then,
+ * and behind it as an ordinary table is. It is linked with the table and the library, and with `--wrap` of the calls below. */
 #include "nardsill.h"
 #include "testing.h"
 #include <errno.h>
@@ -52,54 +52,83 @@ int __wrap_fdatasync(int fd) {
     return -1;
 }
 
-#define SUM "select count(*), sum(block * 7 + offset * 3 + length(key)), group_concat(substr(key, 1, 1) || block % 7, '')" \
-    " from (select * from t order by key, block, offset)"
+#define SUM_OF(table) "select count(*), sum(block * 7 + offset * 3 + length(key)), group_concat(substr(key, 1, 1) || block % 7, '')" \
+    " from (select * from " table " order by key, block, offset)"
+#define SUM SUM_OF("t")
 
-/* 300 entries of 150 rows go, 200 move, 200 come; of 100 of these the row has another entry. */
-static const char changes[] = "begin; delete from t where block < 150; update t set key = key || 'y' where block >= 900;"
-    "with recursive n(i) as (select 500 union all select i + 1 from n where i < 599) insert into t select 'new' || i, i, 1 from n;"
-    "with recursive n(i) as (select 2000 union all select i + 1 from n where i < 2099) insert into t select 'new' || i, i, 1 from n";
+/* 300 entries of 150 rows go, 200 move, 200 come; of 100 of these the row has another entry. Of 20 rows one entry goes and another stays. */
+#define CHANGES(table) "delete from " table " where block < 150; update " table " set key = key || 'y' where block >= 900;" \
+    "with recursive n(i) as (select 500 union all select i + 1 from n where i < 599) insert into " table " select 'new' || i, i, 1 from n;" \
+    "with recursive n(i) as (select 2000 union all select i + 1 from n where i < 2099) insert into " table " select 'new' || i, i, 1 from n;" \
+    "delete from " table " where block >= 300 and block < 320 and key like 'x%'"
 
-/* Makes the call fail that is the nth of a commit, so many times. Tells whether it has. */
-static int try(int nth, int so_often, const char *before) {
-    sqlite3 *db = connect_to(":memory:");
-    run(db, "create virtual table t using nardsill('failing.idx')");
-    ROWS(db, SUM, before);
-    run(db, changes);
-    left_until = nth;
-    times = so_often;
-    char *error = 0;
-    int status = sqlite3_exec(db, "commit", 0, 0, &error), was_refused = !left_until || times < so_often;
-    left_until = 0;
-    if (status) {
-        TRUE(status == SQLITE_FULL && strstr(error, "IndexFull"));
-        TRUE(sqlite3_get_autocommit(db));
-        ROWS(db, SUM, before);
-    }
-    TRUE(!!status == was_refused);
-    sqlite3_free(error);
-    TRUE(!sqlite3_close(db));
-    db = connect_to(":memory:");
-    ROWS(db, "select nardsill_check('failing.idx') like 'ok %'", "1");
-    TRUE(!sqlite3_close(db));
-    return was_refused;
-}
+static char before[4096], behind[4096];
 
-static void fill(char *before) {
+/* An index with 1,600 entries; an ordinary table tells what the changes make of it. */
+static void fill(void) {
     unlink("failing.idx");
     sqlite3 *db = connect_to(":memory:");
     run(db, "create virtual table t using nardsill('failing.idx', pages=256)");
     run(db, "with recursive n(i) as (select 0 union all select i + 1 from n where i < 999)"
             "insert into t select printf('%04d', i * 7919 % 1000), i, 1 from n union all select 'x' || i, i, 1 from n where i < 600");
-    strcpy(before, rows_of(db, SUM));
+    run(db, "create table o(key text, block integer, offset integer); insert into o select key, block, offset from t");
+    strcpy(before, rows_of(db, SUM_OF("o")));
+    run(db, CHANGES("o"));
+    strcpy(behind, rows_of(db, SUM_OF("o")));
     TRUE(!sqlite3_close(db));
+}
+
+/* Behind a commit that went well: what was refused then is told by the next use while it is refused, and done once it isn't. */
+static void look_behind(sqlite3 *db) {
+    if (left_until) refuses(db, "select * from t", SQLITE_FULL, "IndexFull");
+    TRUE(!left_until);
+    ROWS(db, SUM, behind);
+}
+
+/* Makes the call fail that is the nth of a commit, so many times. Tells whether it has; and whether the database was committed then. */
+static int try(int nth, int so_often, int *committed) {
+    fill();
+    sqlite3 *db = connect_to(":memory:");
+    run(db, "create virtual table t using nardsill('failing.idx')");
+    ROWS(db, SUM, before);
+    run(db, "begin;" CHANGES("t"));
+    left_until = nth;
+    times = so_often;
+    char *error = 0;
+    int status = sqlite3_exec(db, "commit", 0, 0, &error), was_refused = !left_until || times < so_often;
+    *committed = !status;
+    TRUE(!status || (was_refused && status == SQLITE_FULL && strstr(error, "IndexFull")));
+    TRUE(sqlite3_get_autocommit(db));
+    if (status || !was_refused) left_until = 0;
+    /* If nobody uses it any more, the closing does what is owed. */
+    int is_left = !status && was_refused && nth % 2;
+    if (is_left) left_until = 0;
+    else if (status) ROWS(db, SUM, before);
+    else look_behind(db);
+    sqlite3_free(error);
+    TRUE(!sqlite3_close(db));
+    db = connect_to(":memory:");
+    ROWS(db, "select nardsill_check('failing.idx') like 'ok %'", "1");
+    run(db, "create virtual table t using nardsill('failing.idx')");
+    ROWS(db, SUM, status ? before : behind);
+    TRUE(!sqlite3_close(db));
+    return was_refused;
+}
+
+static void try_each(int so_often) {
+    int nth = 0, committed = 0, before_it = 0;
+    while (try(++nth, so_often, &committed)) before_it += !committed;
+    TRUE(before_it > 10 && nth - 1 - before_it >= 2);
+    printf("failing: %d calls before the database's commit, %d behind it, each refused %d times: the index is as it must be\n", before_it,
+           nth - 1 - before_it, so_often);
 }
 
 /* A sync that fails stops the index. The connection is closed and opened again: then the index is sound. */
 static void fail_sync(void) {
+    fill();
     sqlite3 *db = connect_to(":memory:");
     run(db, "create virtual table t using nardsill('failing.idx')");
-    run(db, changes);
+    run(db, "begin;" CHANGES("t"));
     syncs_fail = 1;
     refuses(db, "commit", SQLITE_IOERR, "The index may hold a part of the transaction");
     syncs_fail = 0;
@@ -114,16 +143,27 @@ static void fail_sync(void) {
     puts("failing: a sync that fails is told, and the index is sound when it is opened again");
 }
 
+/* The rows that go are deleted behind the database's commit. If that fails, the next use says so. */
+static void fail_sync_behind(void) {
+    fill();
+    sqlite3 *db = connect_to(":memory:");
+    run(db, "create virtual table t using nardsill('failing.idx'); begin; delete from t where block < 150");
+    syncs_fail = 1;
+    run(db, "commit");
+    syncs_fail = 0;
+    refuses(db, "select * from t", SQLITE_IOERR, "close it and open it again (Stopped)");
+    run(db, "drop table t");
+    TRUE(!sqlite3_close(db));
+    db = connect_to(":memory:");
+    ROWS(db, "select nardsill_check('failing.idx') like 'ok %'", "1");
+    TRUE(!sqlite3_close(db));
+    puts("failing: a sync that fails behind the commit is told by the next use");
+}
+
 int main(void) {
-    static char before[4096];
-    fill(before);
-    for (int so_often = 1; so_often <= 2; so_often++) {
-        int nth = 0;
-        while (try(++nth, so_often, before)) continue;
-        TRUE(nth > 10);
-        printf("failing: %d calls of a commit, each refused %d times: the index is as it was\n", nth - 1, so_often);
-        fill(before);
-    }
+    try_each(1);
+    try_each(2);
     fail_sync();
+    fail_sync_behind();
     return 0;
 }

@@ -20,8 +20,9 @@
  * the value has the table's type. `order by key`, or `key, block, offset`, needs no sorting. A hidden column `entry`, a blob, is the primary
  * key: the key's bytes, then the block and the offset, high bytes first.
  *
- * A transaction's changes are in memory until it is committed; its own statements see them. `rollback` and savepoints are SQLite's. The
- * index can only delete all entries of a row together: a commit that deletes some of them, and leaves others, is refused. */
+ * A transaction's changes are in memory until it is committed; its own statements see them. `rollback` and savepoints are SQLite's. Entries
+ * are added before the database is committed, and rows deleted behind it. The index can only delete all entries of a row together: those that
+ * stay of such a row are put back. */
 #include <sqlite3ext.h>
 SQLITE_EXTENSION_INIT1
 #include "store.h"
@@ -49,9 +50,9 @@ typedef struct {
 } cursor;
 
 static const char text_columns[] =
-    "create table t (key text, block integer, offset integer, entry blob hidden primary key) without rowid";
+    "create table t (key text not null, block integer not null, offset integer not null, entry blob hidden primary key) without rowid";
 static const char blob_columns[] =
-    "create table t (key blob, block integer, offset integer, entry blob hidden primary key) without rowid";
+    "create table t (key blob not null, block integer not null, offset integer not null, entry blob hidden primary key) without rowid";
 enum { KEY, BLOCK, OFFSET, ENTRY };
 
 /* ---- Connecting ---- */
@@ -128,7 +129,10 @@ static int disconnect(sqlite3_vtab *base) {
 }
 
 /* A table can't be dropped by the transaction that has changed its index: if it went back to a savepoint, the changes would be lost. */
-static int destroy(sqlite3_vtab *base) { return ((table *)base)->of->pending.num_acts ? SQLITE_LOCKED : disconnect(base); }
+static int destroy(sqlite3_vtab *base) {
+    const store *s = ((table *)base)->of;
+    return s->pending.num_acts && s->carried != OWED ? SQLITE_LOCKED : disconnect(base);
+}
 
 static int rename_table(sqlite3_vtab *base, const char *name) {
     table *t = (table *)base;
@@ -171,7 +175,8 @@ static int find_constraint(sqlite3_index_info *info, int column, int op, int or_
 static int find_equality(sqlite3_index_info *info, int *is_list) {
     int list = -1;
     for (int i = 0; i < info->nConstraint; i++) {
-        if (info->aConstraint[i].op != SQLITE_INDEX_CONSTRAINT_EQ || !can_narrow(info, i, KEY)) continue;
+        int op = info->aConstraint[i].op;
+        if ((op != SQLITE_INDEX_CONSTRAINT_EQ && op != SQLITE_INDEX_CONSTRAINT_IS) || !can_narrow(info, i, KEY)) continue;
         *is_list = 0;
         if (!sqlite3_vtab_in(info, i, -1)) return i;
         if (list < 0) list = i;
@@ -245,8 +250,9 @@ static int best_index(sqlite3_vtab *base, sqlite3_index_info *info) {
 
 static int open_cursor(sqlite3_vtab *base, sqlite3_vtab_cursor **out) {
     store *s = ((table *)base)->of;
-    cursor *c = sqlite3_malloc64(sizeof *c);
-    if (!c) return SQLITE_NOMEM;
+    int status = prepare_store(s, &base->zErrMsg);
+    cursor *c = status ? 0 : sqlite3_malloc64(sizeof *c);
+    if (!c) return status ? status : SQLITE_NOMEM;
     memset(c, 0, sizeof *c);
     c->reads.of = s;
     c->reads.is_over = 1;
@@ -582,11 +588,7 @@ static int update(sqlite3_vtab *base, int argc, sqlite3_value **argv, sqlite3_in
 
 /* ---- Transactions ---- */
 
-/* Nothing is to be done: the first change begins a transaction. */
-static int begin(sqlite3_vtab *base) {
-    (void)base;
-    return SQLITE_OK;
-}
+static int begin(sqlite3_vtab *base) { return prepare_store(((table *)base)->of, &base->zErrMsg); }
 
 /* Whether SQLite still has the table: going back to a savepoint may have undone its making. */
 static int is_in_schema(const table *t) { return !sqlite3_table_column_metadata(t->db, t->schema, t->name, 0, 0, 0, 0, 0, 0); }
@@ -602,13 +604,16 @@ static int has_a_table(const table *made) {
 static int sync_table(sqlite3_vtab *base) {
     table *t = (table *)base;
     if (t->is_new && t->of->pending.num_acts && !has_a_table(t)) keep_acts(&t->of->pending, 0);
-    return sync_store(t->of, t->is_blob, &base->zErrMsg);
+    return sync_store(t->of, &base->zErrMsg);
 }
 
+/* The database is committed, and takes no refusal any more: what can't be deleted now is told by the next use. */
 static int commit_table(sqlite3_vtab *base) {
     table *t = (table *)base;
+    int status = t->of->carried == NOTHING ? 0 : pay_owed(t->of);
+    if (status) sqlite3_log(code_of(status), "nardsill: %s: rows that were deleted stay: %s", t->of->path, nardsill_strerror(status));
+    else end_transaction(t->of);
     t->is_new = 0;
-    end_transaction(t->of);
     return SQLITE_OK;
 }
 
@@ -650,16 +655,32 @@ static char *spell_refusal(int status) {
     return sqlite3_mprintf("refused %d %s%s%s", status, nardsill_errname(status), error ? ": " : "", error ? strerror(error) : "");
 }
 
+/* Judges the index in a file; it waits for one that another handle has. */
+static int judge_file(sqlite3 *db, const char *path, nardsill_report *report) {
+    int status, waited = 0;
+    do status = nardsill_check(path, 0, report);
+    while (status == NARDSILL_LOCKED && !wait_for_file(db, &waited));
+    return status;
+}
+
 static void check(sqlite3_context *context, int argc, sqlite3_value **argv) {
     (void)argc;
     nardsill_report report = NARDSILL_REPORT;
+    sqlite3 *db = sqlite3_context_db_handle(context);
     const char *path = (const char *)sqlite3_value_text(argv[0]);
-    char *whole = path ? whole_path(sqlite3_context_db_handle(context), "main", path) : 0;
-    int status = whole ? nardsill_check(whole, 0, &report) : path ? NARDSILL_NO_MEMORY : NARDSILL_MISUSE;
-    char *text = status ? spell_refusal(status) : spell_report(&report);
+    char *whole = path ? whole_path(db, "main", path) : 0, *message = 0;
+    int code = whole ? refuse_database_file(db, whole, &message) : SQLITE_OK;
+    if (code) {
+        if (message) sqlite3_result_error(context, message, -1);
+        else sqlite3_result_error_code(context, code);
+    } else {
+        int status = whole ? judge_file(db, whole, &report) : path ? NARDSILL_NO_MEMORY : NARDSILL_MISUSE;
+        char *text = status ? spell_refusal(status) : spell_report(&report);
+        if (text) sqlite3_result_text(context, text, -1, sqlite3_free);
+        else sqlite3_result_error_nomem(context);
+    }
+    sqlite3_free(message);
     sqlite3_free(whole);
-    if (text) sqlite3_result_text(context, text, -1, sqlite3_free);
-    else sqlite3_result_error_nomem(context);
 }
 
 static const sqlite3_module module = {
@@ -695,7 +716,7 @@ int sqlite3_nardsilltable_init(sqlite3 *db, char **error, const sqlite3_api_rout
     }
     connection *of = sqlite3_malloc64(sizeof *of);
     if (!of) return SQLITE_NOMEM;
-    of->stores = 0;
+    *of = (connection){.db = db};
     int status = sqlite3_create_module_v2(db, "nardsill", &module, of, sqlite3_free);
     return status ? status : sqlite3_create_function(db, "nardsill_check", 1, SQLITE_UTF8 | SQLITE_DIRECTONLY, 0, check, 0, 0);
 }

@@ -9,6 +9,11 @@
 
 enum { LEVELS = 12 };
 
+/* A step along a list of changes. A test counts them. */
+#ifndef STEP
+#define STEP ((void)0)
+#endif
+
 /* Behind an entry and before row `next` of its key, or before its key's end, the index has no entry but those with a change of their own.
  * So the next row of a key with many is found without reading them. */
 typedef struct {
@@ -21,21 +26,22 @@ struct change {
     nardsill_entry entry;
     uint8_t was;    /* whether the index has the entry without this transaction */
     uint8_t now;    /* whether the transaction sees it */
+    uint8_t levels;
     uint64_t since; /* the time of the act that made it seen */
     gap behind;
-    change *next[]; /* the next change at each level that this one has */
+    change *next[]; /* the next change at each of its levels; then the next added one at each */
 };
 
 typedef struct {
     change *first[LEVELS]; /* a skip list, in the index's order */
+    change *first_added[LEVELS]; /* and one of the changes alone whose entries are seen and that the index hasn't */
     uint32_t dice;
-    size_t added; /* changes of entries that are seen and that the index hasn't */
     change **acts;
     size_t num_acts, room_of_acts;
     size_t *marks; /* how many acts there were at each savepoint */
     int num_marks, room_of_marks;
     uint64_t time; /* it goes on with each act, and never back */
-    uint64_t version; /* it goes on whenever anything changes */
+    uint64_t version; /* it goes on whenever acts are taken back, or changes are freed */
 } pending;
 
 static int compare_rows(const void *a, const void *b) {
@@ -60,10 +66,32 @@ static int compare_entries(const nardsill_entry *one, const nardsill_entry *othe
 static change *seek_change(pending *p, const nardsill_entry *entry, change ***links) {
     change **at = p->first;
     for (int level = LEVELS; level--;) {
-        while (at[level] && compare_entries(&at[level]->entry, entry) < 0) at = at[level]->next;
+        for (; at[level] && compare_entries(&at[level]->entry, entry) < 0; at = at[level]->next) STEP;
         if (links) links[level] = &at[level];
     }
     return at[0];
+}
+
+static change **next_added_of(change *c) { return c->next + c->levels; }
+
+/* The same among those of added entries. */
+static change *seek_added_change(pending *p, const nardsill_entry *entry, change ***links) {
+    change **at = p->first_added;
+    for (int level = LEVELS; level--;) {
+        for (; at[level] && compare_entries(&at[level]->entry, entry) < 0; at = next_added_of(at[level])) STEP;
+        if (links) links[level] = &at[level];
+    }
+    return at[0];
+}
+
+/* Takes a change into the list of added ones, or out of it. */
+static void list_added(pending *p, change *c, int is_in) {
+    change **links[LEVELS];
+    seek_added_change(p, &c->entry, links);
+    for (int level = 0; level < c->levels; level++) {
+        if (is_in) next_added_of(c)[level] = *links[level];
+        *links[level] = is_in ? c : next_added_of(c)[level];
+    }
 }
 
 /* The gap that this entry lies in, as the change before it knows. */
@@ -103,9 +131,10 @@ static change *change_of(pending *p, const nardsill_entry *entry, int was) {
     change *found = seek_change(p, entry, links);
     if (found && !compare_entries(&found->entry, entry)) return found;
     int levels = num_levels(p);
-    change *made = sqlite3_malloc64(sizeof *made + (size_t)levels * sizeof *made->next);
+    change *made = sqlite3_malloc64(sizeof *made + 2 * (size_t)levels * sizeof *made->next);
     if (!made) return 0;
     made->entry = *entry;
+    made->levels = (uint8_t)levels;
     made->was = made->now = was != 0;
     made->since = 0;
     made->behind = (gap){0};
@@ -132,11 +161,9 @@ static int reserve_acts(pending *p, size_t more) {
 }
 
 static void turn(pending *p, change *c, uint64_t since) {
-    p->added -= (size_t)is_added(c);
     c->now = !c->now;
     c->since = since;
-    p->added += (size_t)is_added(c);
-    p->version++;
+    if (!c->was) list_added(p, c, c->now);
 }
 
 /* An act, for which there is room. */
@@ -148,6 +175,7 @@ static void act(pending *p, change *c) {
 /* Takes back all acts but the first ones. */
 static void keep_acts(pending *p, size_t count) {
     while (p->num_acts > count) turn(p, p->acts[--p->num_acts], 0);
+    p->version++;
 }
 
 /* Begins savepoint `number`. A lower one that was never told began with the transaction. One that is open stays as it is, since another

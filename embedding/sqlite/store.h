@@ -5,6 +5,7 @@
 #ifndef NARDSILL_STORE_H
 #define NARDSILL_STORE_H
 #include "arguments.h"
+#include "files.h"
 #include "pending.h"
 #include <errno.h>
 
@@ -25,6 +26,7 @@ typedef struct store store;
 
 /* What a connection has open. */
 typedef struct {
+    sqlite3 *db;
     store *stores;
 } connection;
 
@@ -34,14 +36,18 @@ struct store {
     int uses; /* tables that have it */
     struct table *tables; /* these */
     char *path;
-    nardsill *index;
+    uint32_t frames;
+    nardsill *index; /* null until it could be opened */
     int is_unique;
     reader *readers; /* the open ones */
     pending pending;
-    /* How much of the pending changes the index has. */
-    enum { NOTHING, SOME, ALL } carried;
-    row_set added; /* rows of the entries that a commit adds */
-    entry_list others; /* entries that were there, of such rows */
+    /* What the index has of the pending changes: nothing; a part, of a commit or of its undoing that was refused; all but the rows that go; or
+     * these are owed alone, since the database is committed. */
+    enum { NOTHING, SOME, ADDED, OWED } carried;
+    row_set added;   /* rows of the entries that a commit adds */
+    row_set gone;    /* rows that go whole */
+    row_set changed; /* rows that lose an entry and keep or get another */
+    entry_list others; /* entries that stay of rows that are to be deleted: they are put back */
 };
 
 /* SQLite's code for a refusal. */
@@ -81,16 +87,63 @@ static int judge_limits(arguments *a, const nardsill_details *details, char **me
     return SQLITE_OK;
 }
 
-/* Opens the index in a file. If there is no such file and it may, makes it before. */
-static int open_index(const arguments *a, int may_make, nardsill **out, char **message) {
-    int status = nardsill_open(a->path, a->frames, out);
-    if (status == NARDSILL_IO && may_make && nardsill_last_fault()->error == ENOENT) {
-        status = nardsill_create(a->path, &a->limits);
-        if (!status) status = nardsill_open(a->path, a->frames, out);
+/* Tells how many milliseconds this connection waits for a lock, as `sqlite3_busy_timeout` has set it. Refused if the statement is interrupted. */
+static int patience_of(sqlite3 *db, int *patience) {
+    sqlite3_stmt *asking = 0;
+    *patience = 0;
+    int status = sqlite3_prepare_v2(db, "pragma busy_timeout", -1, &asking, 0);
+    if (!status && sqlite3_step(asking) == SQLITE_ROW) *patience = sqlite3_column_int(asking, 0);
+    return sqlite3_finalize(asking) == SQLITE_INTERRUPT ? SQLITE_INTERRUPT : SQLITE_OK;
+}
+
+/* Waits a little for a file that another handle has, behind so many milliseconds. Busy if it has waited long enough. */
+static int wait_for_file(sqlite3 *db, int *waited) {
+    int patience, status = patience_of(db, &patience), left = patience - *waited, part = 1 + *waited / 4;
+    if (status || left <= 0) return status ? status : SQLITE_BUSY;
+    if (part > 50) part = 50;
+    if (part > left) part = left;
+    sqlite3_sleep(part);
+    *waited += part;
+    return SQLITE_OK;
+}
+
+/* Opens the index in a file, or makes it before if there is no such file and limits are given. */
+static int open_file(sqlite3 *db, const char *path, uint32_t frames, const nardsill_limits *limits, nardsill **out, char **message) {
+    int code = refuse_database_file(db, path, message);
+    if (code) return code;
+    int status = nardsill_open(path, frames, out);
+    if (status == NARDSILL_IO && limits && nardsill_last_fault()->error == ENOENT) {
+        /* A making writes there first. */
+        char *draft = sqlite3_mprintf("%s.nardsill-draft", path);
+        code = draft ? refuse_database_file(db, draft, message) : SQLITE_NOMEM;
+        sqlite3_free(draft);
+        if (code) return code;
+        status = nardsill_create(path, limits);
+        if (!status) status = nardsill_open(path, frames, out);
     }
     if (!status) return SQLITE_OK;
-    int code = refused(a->path, status, message);
+    code = refused(path, status, message);
     return code == SQLITE_IOERR ? SQLITE_CANTOPEN : code;
+}
+
+/* Opens a store's index, unless it is open. It waits for a file that another handle has, if it is to. */
+static int open_index(store *s, const nardsill_limits *limits, int waits, char **message) {
+    nardsill_details details = NARDSILL_DETAILS;
+    nardsill *index = 0;
+    int waited = 0, status, ended = SQLITE_OK;
+    if (s->index) return SQLITE_OK;
+    do status = open_file(s->of->db, s->path, s->frames, limits, &index, message);
+    while (status == SQLITE_BUSY && waits && !(ended = wait_for_file(s->of->db, &waited)));
+    if (status) return ended ? ended : status;
+    int info = nardsill_info(index, &details);
+    if (info) {
+        status = refused(s->path, info, message);
+        if (nardsill_close(index)) sqlite3_log(status, "nardsill: %s: closing failed", s->path);
+        return status;
+    }
+    s->index = index;
+    s->is_unique = details.unique != 0;
+    return SQLITE_OK;
 }
 
 static store *find_store(connection *of, const char *path) {
@@ -99,25 +152,17 @@ static store *find_store(connection *of, const char *path) {
     return s;
 }
 
-static int open_store(connection *of, const arguments *a, int may_make, store **out, char **message) {
+/* A store whose index isn't open yet; null if memory is out. */
+static store *make_store(connection *of, const arguments *a) {
     store *s = sqlite3_malloc64(sizeof *s);
     char *path = sqlite3_mprintf("%s", a->path);
-    nardsill_details details = NARDSILL_DETAILS;
-    nardsill *index = 0;
-    int status = s && path ? open_index(a, may_make, &index, message) : SQLITE_NOMEM, info = 0;
-    if (!status) info = nardsill_info(index, &details);
-    if (info) {
-        status = refused(path, info, message);
-        if (nardsill_close(index)) sqlite3_log(status, "nardsill: %s: closing failed", path);
-    }
-    if (status) {
+    if (!s || !path) {
         sqlite3_free(s);
         sqlite3_free(path);
-        return status;
+        return 0;
     }
-    *s = (store){.of = of, .next = of->stores, .path = path, .index = index, .is_unique = details.unique != 0};
-    *out = of->stores = s;
-    return SQLITE_OK;
+    *s = (store){.of = of, .next = of->stores, .path = path, .frames = a->frames};
+    return of->stores = s;
 }
 
 static void free_rows(row_set *set) {
@@ -127,6 +172,7 @@ static void free_rows(row_set *set) {
 }
 
 static void end_transaction(store *s);
+static int pay_owed(store *s);
 
 /* Lets a store go, and closes its index if no table has it. */
 static void let_go(store *s) {
@@ -134,31 +180,44 @@ static void let_go(store *s) {
     store **link = &s->of->stores;
     while (*link != s) link = &(*link)->next;
     *link = s->next;
+    int status = s->carried == OWED ? pay_owed(s) : 0;
     end_transaction(s);
-    int status = nardsill_close(s->index);
+    int closed = s->index ? nardsill_close(s->index) : 0;
+    if (!status) status = closed;
     if (status) sqlite3_log(code_of(status), "nardsill: %s: closing: %s", s->path, nardsill_strerror(status));
     sqlite3_free(s->path);
     sqlite3_free(s);
 }
 
-/* The store of the file that the arguments name. */
-static int take_store(connection *of, arguments *a, int may_make, int is_open, store **out, char **message) {
-    store *s = find_store(of, a->path);
-    int status = s ? SQLITE_OK : open_store(of, a, may_make, &s, message);
-    if (status) return status;
-    s->uses++;
+/* Opens the index for a table that is made, or makes it too, and looks whether it is what the arguments ask for. */
+static int open_for_new(store *s, arguments *a, int is_in_transaction, char **message) {
     nardsill_details details = NARDSILL_DETAILS;
     /* If a savepoint undoes the making, SQLite doesn't tell the table of it: so the changes of another one would stay, or go. */
-    if (may_make && s->uses > 1 && is_open) {
+    if (s->uses > 1 && is_in_transaction) {
         say(message, "nardsill: %s: another table has this index: end the transaction before another one is made", a->path);
-        status = SQLITE_LOCKED;
-    } else if (may_make && s->pending.num_acts) {
-        say(message, "nardsill: %s: the open transaction has changed this index: end it first", a->path);
-        status = SQLITE_LOCKED;
-    } else if (may_make) {
-        int info = nardsill_info(s->index, &details);
-        status = info ? refused(s->path, info, message) : judge_limits(a, &details, message);
+        return SQLITE_LOCKED;
     }
+    if (s->pending.num_acts) {
+        say(message, "nardsill: %s: the open transaction has changed this index: end it first", a->path);
+        return SQLITE_LOCKED;
+    }
+    int status = open_index(s, &a->limits, 1, message);
+    if (status) return status;
+    int info = nardsill_info(s->index, &details);
+    return info ? refused(s->path, info, message) : judge_limits(a, &details, message);
+}
+
+/* The store of the file that the arguments name. A table that is there is connected though its index can't be opened: so it can be dropped.
+ * Its first use tries again, and says why not. */
+static int take_store(connection *of, arguments *a, int is_new, int is_in_transaction, store **out, char **message) {
+    store *s = find_store(of, a->path);
+    if (!s) s = make_store(of, a);
+    if (!s) return SQLITE_NOMEM;
+    s->uses++;
+    char *why = 0;
+    int status = is_new ? open_for_new(s, a, is_in_transaction, message) : open_index(s, 0, 0, &why);
+    sqlite3_free(why);
+    if (!is_new && status != SQLITE_NOMEM) status = SQLITE_OK;
     if (status) let_go(s);
     else *out = s;
     return status;
@@ -285,19 +344,25 @@ static change *seek_added(reader *r, const key_range *range) {
     memcpy(from.key, range->from, range->from_len);
     int is_first = is_ahead(r, range);
     if (!is_first) from = r->entry;
-    change *c = seek_change(&r->of->pending, &from, 0);
-    if (c && !is_first && !compare_entries(&c->entry, &from)) c = c->next[0];
-    while (c && (!is_added(c) || c->since > r->time)) c = c->next[0];
+    change *c = seek_added_change(&r->of->pending, &from, 0);
+    if (c && !is_first && !compare_entries(&c->entry, &from)) c = next_added_of(c)[0];
+    for (; c && c->since > r->time; c = next_added_of(c)[0]) STEP;
     return c;
+}
+
+/* Whether the added entry that was found last is still the next one. A change is freed, or comes back, only when the version has gone on. */
+static int is_still_next(const reader *r) {
+    const change *c = r->added;
+    if (r->version != r->of->pending.version) return 0;
+    return !c || (is_added(c) && c->since <= r->time && !(r->has_entry && compare_entries(&c->entry, &r->entry) <= 0));
 }
 
 /* The next entry that the transaction adds; null if the range has none. */
 static const nardsill_entry *next_added(reader *r) {
     pending *p = &r->of->pending;
     const key_range *range = &r->ranges[r->at];
-    if (!p->added) return 0;
-    /* A change is freed only when the version has gone on. */
-    if (r->version != p->version || (r->added && r->has_entry && compare_entries(&r->added->entry, &r->entry) <= 0)) {
+    if (!p->first_added[0]) return 0;
+    if (!is_still_next(r)) {
         r->added = seek_added(r, range);
         r->version = p->version;
     }
@@ -436,44 +501,103 @@ static int note_entry(entry_list *list, const nardsill_entry *entry) {
     return 1;
 }
 
-/* An entry that isn't removed has a row of one that is. */
-enum { HAS_ANOTHER = -1 };
+/* The removed entry with the key of this one; null if there is none. */
+static change *removed_of_key(pending *p, const change *of) {
+    nardsill_entry from = of->entry;
+    from.row = (nardsill_row){0, 0};
+    for (change *c = seek_change(p, &from, 0); c; c = c->next[0]) {
+        if (compare_keys(c->entry.key, c->entry.key_len, from.key, from.key_len)) return 0;
+        if (is_removed(c)) return c;
+    }
+    return 0;
+}
+
+/* Whether an added entry can come only when another one is gone: one of its row, or on a unique index the one of its key. */
+static int waits_for_removal(store *s, const change *c) {
+    if (!s->changed.count) return 0;
+    return place_of(&s->changed, c->entry.row) >= 0 || (s->is_unique && removed_of_key(&s->pending, c));
+}
+
+/* Marks the rows of removed entries for which added ones wait. */
+static void mark_changed(store *s, row_set *removed) {
+    for (change *c = s->pending.first_added[0]; c; c = next_added_of(c)[0]) {
+        const change *goes = s->is_unique ? removed_of_key(&s->pending, c) : 0;
+        ptrdiff_t own = place_of(removed, c->entry.row), of_key = goes ? place_of(removed, goes->entry.row) : -1;
+        if (own >= 0) removed->is_marked[own] = 1;
+        if (of_key >= 0) removed->is_marked[of_key] = 1;
+    }
+}
 
 typedef struct {
     store *of;
-    const row_set *removed;
-    nardsill_entry another;
+    row_set *removed;
 } judging;
 
+/* Marks a row that keeps this entry, and notes it. */
 static int judge_entry(void *with, const nardsill_entry *entry) {
     judging *j = with;
-    if (place_of(j->removed, entry->row) < 0) return 0;
+    ptrdiff_t place = place_of(j->removed, entry->row);
+    if (place < 0) return 0;
     const change *c = find_change(&j->of->pending, entry);
     if (c && is_removed(c)) return 0;
-    j->another = *entry;
-    return HAS_ANOTHER;
+    j->removed->is_marked[place] = 1;
+    return note_entry(&j->of->others, entry) ? 0 : NARDSILL_NO_MEMORY;
 }
 
-/* Says which entry stands in the way. */
-static int say_another(const nardsill_entry *entry, int as_blob, char **message) {
-    int is_plain = !as_blob;
-    char hex[2 * NARDSILL_KEY_MAX + 1] = "", text[NARDSILL_KEY_MAX + 1] = "";
-    for (int i = 0; i < entry->key_len; i++) {
-        is_plain &= entry->key[i] >= ' ' && entry->key[i] != 127;
-        sqlite3_snprintf(3, hex + 2 * i, "%02x", entry->key[i]);
+/* Keeps the rows whose mark is this one. */
+static void keep_marked(row_set *set, int mark) {
+    size_t kept = 0;
+    for (size_t i = 0; i < set->count; i++)
+        if (set->is_marked[i] == mark) set->rows[kept++] = set->rows[i];
+    set->count = kept;
+    if (kept) memset(set->is_marked, 0, kept);
+}
+
+/* Copies a set of rows; 0 if memory is out. */
+static int copy_rows(const row_set *set, row_set *out) {
+    if (!set->count) return 1;
+    out->rows = sqlite3_malloc64(set->count * sizeof *out->rows);
+    out->is_marked = sqlite3_malloc64(set->count);
+    if (!out->rows || !out->is_marked) {
+        free_rows(out);
+        return 0;
     }
-    if (is_plain) memcpy(text, entry->key, entry->key_len);
-    say(message, "nardsill: row (%u,%u) has another entry, of key %s'%q': delete it in the same transaction", entry->row.block,
-        (unsigned)entry->row.offset, is_plain ? "" : "x", is_plain ? text : hex);
-    return SQLITE_CONSTRAINT_VTAB;
+    memcpy(out->rows, set->rows, set->count * sizeof *out->rows);
+    memcpy(out->is_marked, set->is_marked, set->count);
+    out->count = set->count;
+    return 1;
 }
 
-/* Adds the added entries. */
-static int add_entries(store *s) {
+static void forget_plan(store *s) {
+    free_rows(&s->added);
+    free_rows(&s->gone);
+    free_rows(&s->changed);
+    sqlite3_free(s->others.entries);
+    s->others = (entry_list){0};
+}
+
+/* Parts the rows of removed entries: those that go whole, and those that keep or get another entry. */
+static int plan_commit(store *s, char **message) {
+    forget_plan(s);
+    if (!gather_rows(&s->pending, is_added, &s->added) || !gather_rows(&s->pending, is_removed, &s->gone)) return SQLITE_NOMEM;
+    if (!s->gone.count) return SQLITE_OK;
+    judging j = {.of = s, .removed = &s->gone};
+    mark_changed(s, &s->gone);
+    suspend_all(s);
+    int status = each_stored(s, judge_entry, &j);
+    if (status) return refused(s->path, status, message);
+    if (!copy_rows(&s->gone, &s->changed)) return SQLITE_NOMEM;
+    keep_marked(&s->changed, 1);
+    keep_marked(&s->gone, 0);
+    return SQLITE_OK;
+}
+
+/* Adds the added entries: those that wait for the removal of another, or the rest. */
+static int add_entries(store *s, int that_wait) {
     nardsill_entry few[64];
     size_t count = 0, done;
-    for (change *c = s->pending.first[0]; c; c = c->next[0]) {
-        if (is_added(c)) few[count++] = c->entry;
+    for (change *c = s->pending.first_added[0]; c; c = next_added_of(c)[0]) {
+        if (waits_for_removal(s, c) == that_wait) few[count++] = c->entry;
         if (count < sizeof few / sizeof *few) continue;
         int status = nardsill_insert_many(s->index, few, count, &done);
         if (status) return status;
@@ -492,6 +616,18 @@ static int commit_index(store *s) {
     return nardsill_commit(s->index, &actions);
 }
 
+static int put_back(store *s, const nardsill_entry *entry) {
+    int status = nardsill_insert(s->index, entry->key, entry->key_len, entry->row, 0);
+    return status == NARDSILL_EXISTS ? 0 : status;
+}
+
+/* Puts back the entries that went because their row did. */
+static int put_others_back(store *s) {
+    int status = 0;
+    for (size_t i = 0; i < s->others.count && !status; i++) status = put_back(s, &s->others.entries[i]);
+    return status;
+}
+
 /* Marks the row of an entry that was added, and notes another one of such a row. */
 static int sort_entry(void *with, const nardsill_entry *entry) {
     store *s = with;
@@ -503,54 +639,40 @@ static int sort_entry(void *with, const nardsill_entry *entry) {
     return 0;
 }
 
-/* Keeps the marked rows. */
-static void keep_marked(row_set *set) {
-    size_t kept = 0;
-    for (size_t i = 0; i < set->count; i++)
-        if (set->is_marked[i]) set->rows[kept++] = set->rows[i];
-    set->count = kept;
-    if (kept) memset(set->is_marked, 0, kept);
-}
-
-static int put_back(store *s, const nardsill_entry *entry) {
-    int status = nardsill_insert(s->index, entry->key, entry->key_len, entry->row, 0);
-    return status == NARDSILL_EXISTS ? 0 : status;
-}
-
-/* Puts back the entries that were removed, and those that went because their row did. */
-static int put_all_back(store *s) {
+/* Puts back the entries that were removed from rows that have others. */
+static int put_removed_back(store *s) {
     int status = 0;
-    for (size_t i = 0; i < s->others.count && !status; i++) status = put_back(s, &s->others.entries[i]);
     for (change *c = s->pending.first[0]; c && !status; c = c->next[0])
-        if (is_removed(c)) status = put_back(s, &c->entry);
+        if (is_removed(c) && place_of(&s->changed, c->entry.row) >= 0) status = put_back(s, &c->entry);
     return status;
 }
 
 /* Nothing of the pending changes is in the index. */
 static void nothing_is_carried(store *s) {
-    free_rows(&s->added);
-    sqlite3_free(s->others.entries);
-    s->others = (entry_list){0};
+    forget_plan(s);
     s->carried = NOTHING;
 }
 
 /* Gives the log its whole room, so that no entry is deleted on the disk before it is put back there. All that was done is durable already. */
 static int empty_log(store *s) {
     uint64_t actions;
-    return s->others.count && s->carried == ALL ? nardsill_checkpoint(s->index, &actions) : 0;
+    return s->others.count && s->carried == ADDED ? nardsill_checkpoint(s->index, &actions) : 0;
 }
 
 /* Undoes in the index whatever was carried out. The pending changes stay. It can be called again if it was refused. */
 static int take_back(store *s) {
+    int has_changed = s->added.count || s->changed.count;
     suspend_all(s);
     int status = s->added.count ? each_stored(s, sort_entry, s) : 0;
     if (!status) status = empty_log(s);
     if (!status) {
-        keep_marked(&s->added);
+        s->carried = SOME;
+        keep_marked(&s->added, 1);
         status = delete_rows(s, &s->added);
     }
-    if (!status) status = put_all_back(s);
-    if (!status) status = commit_index(s);
+    if (!status) status = put_others_back(s);
+    if (!status) status = put_removed_back(s);
+    if (!status && has_changed) status = commit_index(s);
     if (!status) nothing_is_carried(s);
     return status;
 }
@@ -563,14 +685,18 @@ static void say_part(int status, char **message) {
     sqlite3_free(why);
 }
 
-/* Carries out the changes. If a step is refused, takes back what was done before it. */
-static int carry_out(store *s, const row_set *removed, char **message) {
+/* Carries out the changes, but for the rows that go. What needs room comes first: so a full index refuses before anything is deleted, but
+ * for the rows that lose an entry and keep or get another. If a step is refused, takes back what was done before it. */
+static int carry_out(store *s, char **message) {
     s->carried = SOME;
-    int status = delete_rows(s, removed);
-    if (!status) status = add_entries(s);
-    if (!status) status = commit_index(s);
+    suspend_all(s);
+    int status = add_entries(s, 0);
+    if (!status) status = delete_rows(s, &s->changed);
+    if (!status) status = put_others_back(s);
+    if (!status) status = add_entries(s, 1);
+    if (!status && (s->added.count || s->changed.count)) status = commit_index(s);
     if (!status) {
-        s->carried = ALL;
+        s->carried = ADDED;
         return SQLITE_OK;
     }
     int code = refused(s->path, status, message), undone = take_back(s);
@@ -578,37 +704,44 @@ static int carry_out(store *s, const row_set *removed, char **message) {
     return code;
 }
 
-/* Makes the pending changes durable. They stay pending until the commit has ended, for it may still fail. */
-static int sync_store(store *s, int as_blob, char **message) {
+/* Makes the pending changes durable, but for the rows that go. They stay pending until the commit has ended, for it may still fail. */
+static int sync_store(store *s, char **message) {
     int status = s->carried == SOME ? take_back(s) : 0;
     if (status) return refused(s->path, status, message);
-    if (s->carried == ALL) return SQLITE_OK;
-    row_set removed;
-    if (!gather_rows(&s->pending, is_removed, &removed)) return SQLITE_NOMEM;
-    free_rows(&s->added);
-    int code = gather_rows(&s->pending, is_added, &s->added) ? SQLITE_OK : SQLITE_NOMEM;
-    if (!code && (removed.count || s->added.count)) {
-        judging j = {.of = s, .removed = &removed};
-        suspend_all(s);
-        if (removed.count) status = each_stored(s, judge_entry, &j);
-        if (status == HAS_ANOTHER) code = say_another(&j.another, as_blob, message);
-        else if (status) code = refused(s->path, status, message);
-        else code = carry_out(s, &removed, message);
-    }
-    free_rows(&removed);
-    return code;
-}
-
-/* Brings a commit back that SQLite hasn't ended, so that the transaction can go on. */
-static int reopen_transaction(store *s, char **message) {
-    int status = s->carried == NOTHING ? 0 : take_back(s);
-    return status ? refused(s->path, status, message) : SQLITE_OK;
+    if (s->carried == ADDED || !s->pending.num_acts) return SQLITE_OK;
+    int code = plan_commit(s, message);
+    if (code) nothing_is_carried(s);
+    return code ? code : carry_out(s, message);
 }
 
 /* Ends the transaction. */
 static void end_transaction(store *s) {
     nothing_is_carried(s);
     forget_changes(&s->pending);
+}
+
+/* Deletes the rows that go, and ends the transaction. If it is refused, they stay owed. */
+static int pay_owed(store *s) {
+    s->carried = OWED;
+    suspend_all(s);
+    int status = delete_rows(s, &s->gone);
+    if (!status && s->gone.count) status = commit_index(s);
+    if (!status) end_transaction(s);
+    return status;
+}
+
+/* Before a table is used: its index is open, and owes nothing. */
+static int prepare_store(store *s, char **message) {
+    int status = open_index(s, 0, 1, message);
+    if (status || s->carried != OWED) return status;
+    int paid = pay_owed(s);
+    return paid ? refused(s->path, paid, message) : SQLITE_OK;
+}
+
+/* Brings a commit back that SQLite hasn't ended, so that the transaction can go on. */
+static int reopen_transaction(store *s, char **message) {
+    int status = s->carried == NOTHING ? 0 : take_back(s);
+    return status ? refused(s->path, status, message) : SQLITE_OK;
 }
 
 #endif

@@ -86,14 +86,14 @@ insert into t(key, block, offset, entry) values ('kim', 15, 1, x'00');
 insert into t(key, block, offset, entry) values ('kim', 15, 1, x'6b696d0000000f0001');
 select key, block, offset from t where key < '9' or key > 'k';
 .print -- rows
-insert into t values ('subject', 20, 1), ('sender', 20, 1);
+insert into t values ('subject', 20, 1), ('sender', 20, 1), ('size', 20, 1);
 delete from t where key = 'subject';
-begin;
-delete from t where key = 'subject';
-delete from t where key = 'sender';
-insert into t values ('date', 20, 1);
-commit;
 select key from t where block = 20;
+begin;
+delete from t where block = 20;
+insert into t values ('date', 20, 1), ('size', 20, 1);
+commit;
+select key from t where block = 20; delete from t where key = 'size';
 update t set key = 'day' where key = 'date';
 select key from t where block = 20;
 .print -- a unique index
