@@ -25,7 +25,7 @@
  * stay of such a row are put back. */
 #include <sqlite3ext.h>
 SQLITE_EXTENSION_INIT1
-#include "store.h"
+#include "backward.h"
 
 #if SQLITE_VERSION_NUMBER < 3038000
 #error "the header of SQLite 3.38 or later is wanted"
@@ -47,6 +47,8 @@ typedef struct {
     reader reads;
     key_range *ranges;
     int num_ranges, room;
+    int is_backward;
+    backward back;
 } cursor;
 
 static const char text_columns[] =
@@ -153,7 +155,8 @@ enum {
     UP_TO = 8,     /* keys below it, and itself */
     IS_LIST = 16,  /* the keys of a list of values */
     IS_ENTRY = 32, /* the key of this entry */
-    IS_LITERAL = 64 /* the upper end is written in the statement */
+    IS_LITERAL = 64, /* the upper end is written in the statement */
+    BACKWARD = 128 /* from the last key to the first */
 };
 
 /* Whether a constraint can narrow a scan: one that compares by bytes. */
@@ -215,6 +218,11 @@ static int is_in_order(const sqlite3_index_info *info) {
     return 1;
 }
 
+/* Whether the keys are wanted from the last to the first. */
+static int is_backward(const sqlite3_index_info *info) {
+    return info->nOrderBy == 1 && info->aOrderBy[0].iColumn == KEY && info->aOrderBy[0].desc;
+}
+
 static void expect(sqlite3_index_info *info, double rows, double cost) {
     info->estimatedRows = (sqlite3_int64)rows;
     info->estimatedCost = cost;
@@ -240,6 +248,7 @@ static int best_index(sqlite3_vtab *base, sqlite3_index_info *info) {
         if (is_list) expect(info, 25, 100);
     } else {
         int ends = use_range(info);
+        if (is_backward(info)) info->idxNum |= BACKWARD, info->orderByConsumed = 1;
         double part = ends == 2 ? 16 : ends == 1 ? 4 : 1;
         expect(info, all / part + 1, all / part + 20);
     }
@@ -268,6 +277,7 @@ static int close_cursor(sqlite3_vtab_cursor *base) {
     while (*link != &c->reads) link = &(*link)->next;
     *link = c->reads.next;
     suspend(&c->reads);
+    end_backward(&c->back);
     sqlite3_free(c->ranges);
     sqlite3_free(c);
     return SQLITE_OK;
@@ -384,8 +394,9 @@ static int range_of_entry(cursor *c, sqlite3_value *value) {
 }
 
 static int next(sqlite3_vtab_cursor *base) {
-    reader *r = &((cursor *)base)->reads;
-    int status = read_next(r);
+    cursor *c = (cursor *)base;
+    reader *r = &c->reads;
+    int status = c->is_backward ? read_back(&c->back, r) : read_next(r);
     if (!status) return SQLITE_OK;
     r->is_over = 1;
     return refused(r->of->path, status, &base->pVtab->zErrMsg);
@@ -400,6 +411,8 @@ static int filter(sqlite3_vtab_cursor *base, int plan, const char *text, int arg
         c->reads.is_over = 1;
         return status;
     }
+    c->is_backward = plan & BACKWARD && c->num_ranges;
+    if (c->is_backward) begin_backward(&c->back, c->reads.of, c->ranges);
     begin_reading(&c->reads, c->reads.of, c->ranges, c->num_ranges);
     return next(base);
 }

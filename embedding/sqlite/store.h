@@ -241,6 +241,7 @@ struct reader {
     nardsill_scan *scan; /* null if it isn't begun, or is over */
     int is_read; /* the index has no entry of the range behind those in `few` */
     int num_few, at_few;
+    size_t passed; /* removed entries that it has passed over */
     nardsill_entry few[64];
     change *added; /* the next added entry; it stands while the version does */
     uint64_t version;
@@ -329,6 +330,7 @@ static int next_stored(reader *r, const nardsill_entry **out) {
             *out = entry;
             return 0;
         }
+        r->passed += !is_given;
         r->at_few++;
     }
     return 0;

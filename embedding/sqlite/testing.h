@@ -25,7 +25,7 @@ static uint32_t roll(uint32_t sides) {
 static __attribute__((unused)) int once_in(uint32_t sides) { return !roll(sides); }
 
 #ifdef SQLITE_CORE
-int sqlite3_nardsilltable_init(sqlite3 *, char **, const void *);
+int sqlite3_nardsilltable_init(sqlite3 *, char **, const struct sqlite3_api_routines *);
 #endif
 
 /* A connection that has the table's module: from ./nardsill_table.so, or linked with the test. */
