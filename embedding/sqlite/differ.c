@@ -1,7 +1,8 @@
 /* Compares the virtual table with an ordinary one: differ [QUERIES [STEPS [SEED]]]
  *
  * Random queries over tables of texts and of blobs; then random transactions, with a look at all rows after each step; then transactions
- * that make a table, fill it, rename it and change others. Status 1 at the first difference, which it prints. */
+ * that make a table, fill it, rename it and change others; then transactions over several tables of several files. Status 1 at the first
+ * difference, which it prints. */
 #include "testing.h"
 
 /* A text or a blob, a number, or null. */
@@ -70,7 +71,7 @@ static void bind(sqlite3_stmt *query, int at, const value *v) {
     else sqlite3_bind_null(query, at);
 }
 
-/* ---- A statement in the making: '@' stands for the table ---- */
+/* ---- A statement in the making: '@' stands for the table, '$' for a second one ---- */
 
 static char sql[20000];
 static value bound[MOST_VALUES];
@@ -243,10 +244,12 @@ typedef struct {
     char *message;
 } answer;
 
+static const char *second = "";
+
 static char *named(const char *table) {
-    char *out = malloc(2 * (size_t)sql_len + 1), *to = out;
+    char *out = malloc(4 * (size_t)sql_len + 1), *to = out;
     for (const char *at = sql; *at; at++) {
-        if (*at == '@') to += sprintf(to, "%s", table);
+        if (*at == '@' || *at == '$') to += sprintf(to, "%s", *at == '@' ? table : second);
         else *to++ = *at;
     }
     *to = 0;
@@ -731,6 +734,159 @@ static void second_table(void) {
     puts("second: refused in a transaction, made outside of one");
 }
 
+/* ---- Several tables of several files ---- */
+
+/* The first two are of one file. Each has two names, between which it is renamed. */
+enum { NUM_TABLES = 4, NUM_FILES = 3, MOST_SAVEPOINTS = 8 };
+static const int file_of[NUM_TABLES] = {0, 0, 1, 2};
+static const char *const ordinary_names[NUM_FILES] = {"o0", "o1", "o2"};
+typedef struct { int is_other[NUM_TABLES]; } naming;
+static naming now, at_begin, at_savepoints[MOST_SAVEPOINTS];
+
+static const char *name_now(int which) {
+    static const char *const names[NUM_TABLES][2] = {{"first", "first2"}, {"second", "second2"}, {"third", "third2"}, {"fourth", "fourth2"}};
+    return names[which][now.is_other[which]];
+}
+
+static void make_table(int which) {
+    char *make = sqlite3_mprintf("create virtual table %s using nardsill('several-%d.idx', pages=256, log_bytes=65536)", name_now(which), file_of[which]);
+    run(of_table, make);
+    sqlite3_free(make);
+}
+
+static void begin_several(void) {
+    char text[300];
+    unlink("differ.db");
+    for (int i = 0; i < NUM_FILES; i++) {
+        snprintf(text, sizeof text, "several-%d.idx", i);
+        unlink(text);
+    }
+    of_table = connect_to("differ.db");
+    TRUE(!sqlite3_open(":memory:", &of_ordinary));
+    now = (naming){{0}};
+    for (int i = 0; i < NUM_TABLES; i++) make_table(i);
+    for (int i = 0; i < NUM_FILES; i++) {
+        snprintf(text, sizeof text, "create table %s(key text check (typeof(key) = 'text'), block integer check (block between 0 and 4294967294),"
+                 " offset integer check (offset > 0), primary key(key, block, offset)) without rowid", ordinary_names[i]);
+        run(of_ordinary, text);
+    }
+}
+
+static void compare_several(void) {
+    for (int i = 0; i < NUM_TABLES; i++) {
+        answer table = all_rows(of_table, name_now(i)), ordinary = all_rows(of_ordinary, ordinary_names[file_of[i]]);
+        if (!is_same(&table, &ordinary, 1)) tell_difference(&table, &ordinary);
+        free_answer(&table);
+        free_answer(&ordinary);
+    }
+    TRUE(sqlite3_get_autocommit(of_table) == sqlite3_get_autocommit(of_ordinary));
+}
+
+/* A statement over one table, or over two. It may fail, and may roll back the transaction. */
+static void change_several(void) {
+    int which = (int)roll(NUM_TABLES), other = (int)roll(NUM_TABLES), was_open = !sqlite3_get_autocommit(of_table);
+    put_change();
+    if (once_in(4)) {
+        set_sql(once_in(2) ? "insert or ignore into @ select key, block + 1, offset from $" : "delete from @ where block in (select block from $ where offset = 2)");
+        if (once_in(2)) put(sql[0] == 'i' ? " where block < 3" : " and key > 'b'");
+    }
+    second = name_now(other);
+    answer table = ask(of_table, name_now(which));
+    second = ordinary_names[file_of[other]];
+    answer ordinary = ask(of_ordinary, ordinary_names[file_of[which]]);
+    second = "";
+    if (!table.status != !ordinary.status) tell_difference(&table, &ordinary);
+    free_answer(&table);
+    free_answer(&ordinary);
+    if (was_open && sqlite3_get_autocommit(of_table)) now = at_begin;
+}
+
+static void rename_one(void) {
+    int which = (int)roll(NUM_TABLES);
+    char text[80], was[20];
+    snprintf(was, sizeof was, "%s", name_now(which));
+    now.is_other[which] ^= 1;
+    snprintf(text, sizeof text, "alter table %s rename to %s", was, name_now(which));
+    run(of_table, text);
+}
+
+/* A table is dropped and made anew: its file keeps the entries. */
+static void drop_one(void) {
+    int which = (int)roll(NUM_TABLES);
+    char text[40];
+    snprintf(text, sizeof text, "drop table %s", name_now(which));
+    run(of_table, text);
+    make_table(which);
+}
+
+static void both(const char *text) {
+    run(of_table, text);
+    run(of_ordinary, text);
+}
+
+/* A savepoint's begin, its release, or the way back to it. */
+static void at_several_savepoint(int *savepoints) {
+    char text[40];
+    if (*savepoints < MOST_SAVEPOINTS && (!*savepoints || once_in(2))) {
+        at_savepoints[*savepoints] = now;
+        snprintf(text, sizeof text, "savepoint s%d", (*savepoints)++);
+        both(text);
+        return;
+    }
+    int which = (int)roll((uint32_t)*savepoints), is_back = once_in(2);
+    snprintf(text, sizeof text, is_back ? "rollback to s%d" : "release s%d", which);
+    both(text);
+    if (is_back) now = at_savepoints[which];
+    *savepoints = is_back ? which + 1 : which;
+}
+
+static void take_step_of_several(int *savepoints) {
+    int is_open = !sqlite3_get_autocommit(of_table);
+    if (!is_open) *savepoints = 0;
+    switch (roll(16)) {
+    case 0: case 1:
+        if (!is_open) both("begin"), at_begin = now;
+        else if (once_in(4)) both("rollback"), now = at_begin;
+        else both("commit");
+        break;
+    case 2: case 3:
+        if (is_open) at_several_savepoint(savepoints);
+        break;
+    case 4: rename_one(); break;
+    case 5: change_schema(); break;
+    case 6:
+        if (is_open || once_in(2)) break;
+        TRUE(!sqlite3_close(of_table));
+        of_table = connect_to("differ.db");
+        break;
+    case 7:
+        if (!is_open) drop_one();
+        break;
+    default: change_several();
+    }
+}
+
+static void compare_tables(int count) {
+    int savepoints = 0;
+    is_blob = is_unique = 0;
+    begin_several();
+    for (int i = 0; i < count; i++) {
+        take_step_of_several(&savepoints);
+        compare_several();
+    }
+    if (!sqlite3_get_autocommit(of_table)) both("rollback"), now = at_begin;
+    compare_several();
+    TRUE(!sqlite3_close(of_table) && !sqlite3_close(of_ordinary));
+    of_table = connect_to(":memory:");
+    for (int i = 0; i < NUM_FILES; i++) {
+        char text[80];
+        snprintf(text, sizeof text, "select nardsill_check('several-%d.idx') like 'ok %%'", i);
+        ROWS(of_table, text, "1");
+    }
+    TRUE(!sqlite3_close(of_table));
+    printf("several tables of several files: %d steps, no difference\n", count);
+}
+
 int main(int argc, char **argv) {
     int queries = argc > 1 ? atoi(argv[1]) : 20000, steps = argc > 2 ? atoi(argv[2]) : 5000;
     dice = argc > 3 ? (uint32_t)atoi(argv[3]) : 1;
@@ -743,5 +899,6 @@ int main(int argc, char **argv) {
     compare_transactions("text", 1, steps);
     compare_makings(steps / 4);
     second_table();
+    compare_tables(steps);
     return 0;
 }
