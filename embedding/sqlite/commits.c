@@ -200,6 +200,29 @@ static void open_cursor(void) {
     end_case(BEFORE);
 }
 
+/* The same from the last key to the first: no row is given that is gone. */
+static void open_cursor_backward(void) {
+    sqlite3_stmt *reading;
+    begin_case("");
+    run(db, "with recursive n(i) as (select 1 union all select i + 1 from n where i < 1000)"
+            "insert into t select printf('k%06d', i), i + 100, 1 from n; begin");
+    TRUE(!sqlite3_prepare_v2(db, "select block from t where key > 'd' order by key desc", -1, &reading, 0));
+    int rows = 0, last = 5000;
+    while (sqlite3_step(reading) == SQLITE_ROW) {
+        int block = sqlite3_column_int(reading, 0);
+        TRUE(block < last && block % 10 != 9);
+        last = block;
+        rows++;
+        char text[100];
+        snprintf(text, sizeof text, "delete from t where block = %d", block / 10 * 10 - 1);
+        if (block % 10 == 0) run(db, text);
+    }
+    sqlite3_finalize(reading);
+    TRUE(rows == 900);
+    run(db, "rollback; delete from t where block > 100");
+    end_case(BEFORE);
+}
+
 /* More statements read than an index has scans. */
 static void many_cursors(void) {
     enum { MANY = 200 };
@@ -271,6 +294,7 @@ int main(void) {
     two_indexes();
     full();
     open_cursor();
+    open_cursor_backward();
     many_cursors();
     itself();
     made_and_taken_back();

@@ -30,7 +30,7 @@ static void add_run(value *to, int byte, int len, int last) {
 /* Keys that are beginnings of each other, look like numbers, aren't ASCII or not even UTF-8, or are as long as can be. */
 static void make_pool(void) {
     static const char *const texts[] = {"", "a", "ab", "abc", "abd", "A", "Ab", "aB", "B", "b", "ba", "\303\251", "\303\274x",
-        "\346\227\245\346\234\254", "5", "05", "5.0", "10", "9", "-3", " 7", "1e1", ":", "~", "\t", "a b", "a%", "a_c", "2024-01-31", "2024-02",
+        "\346\227\245\346\234\254", "5", "05", "5.0", "10", "9", "95", "-3", " 7", "1e1", ":", "~", "\t", "a b", "a%", "a_c", "2024-01-31", "2024-02",
         "zz", "\377", "\200", "\303", "z\377"};
     for (size_t i = 0; i < sizeof texts / sizeof *texts; i++) add_value(texts[i], (int)strlen(texts[i]));
     add_value("a\0b", 3);
@@ -351,6 +351,7 @@ static void fill_other(sqlite3 *db) {
         value v[4] = {any_value(), any_value(), any_value(), any_value()};
         if (i == 0) v[0] = (value){.type = SQLITE_TEXT, .len = 1, .bytes = "q"}, v[1] = (value){.type = SQLITE_TEXT, .len = 2, .bytes = "!x"};
         if (i == 1) v[1] = (value){.type = SQLITE_INTEGER, .number = 5};
+        if (i == 3) v[1] = (value){.type = SQLITE_TEXT, .len = 3, .bytes = "9 x"};
         if (i == 2) v[1] = (value){.type = SQLITE_TEXT, .len = 7, .bytes = "2024-02"};
         set_sql("insert into other values (?1, ?2, ?3, ?4)");
         num_bound = 4;
@@ -432,6 +433,7 @@ static void put_rows(int may_be_bad) {
         else put_small_key();
         put(", ");
         if (is_bad && once_in(2)) put("4294967295");
+        else if (once_in(8)) put(once_in(2) ? "2147483648" : "3000000000");
         else put_number((int)roll(8));
         put(", ");
         put_number(is_bad && once_in(3) ? 0 : 1 + (int)roll(2));

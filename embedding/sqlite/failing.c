@@ -17,11 +17,15 @@ int __real_nardsill_insert(nardsill *, const void *, size_t, nardsill_row, uint6
 int __real_nardsill_insert_many(nardsill *, const nardsill_entry *, size_t, size_t *);
 int __real_nardsill_delete_rows(nardsill *, const nardsill_row *, size_t, nardsill_stats *);
 int __real_nardsill_commit(nardsill *, uint64_t *);
+int __real_nardsill_checkpoint(nardsill *, uint64_t *);
 int __real_nardsill_scan_read(nardsill_scan *, nardsill_entry *, size_t, size_t *);
 
 int __wrap_nardsill_insert(nardsill *index, const void *key, size_t len, nardsill_row row, uint64_t *action) {
     return is_refused() ? NARDSILL_INDEX_FULL : __real_nardsill_insert(index, key, len, row, action);
 }
+
+/* How many checkpoints were made, and how many before the last delete. */
+static int checkpoints, checkpoints_before;
 
 /* A batch that is refused is half in. */
 int __wrap_nardsill_insert_many(nardsill *index, const nardsill_entry *entries, size_t count, size_t *done) {
@@ -32,12 +36,18 @@ int __wrap_nardsill_insert_many(nardsill *index, const nardsill_entry *entries, 
 
 /* A bulk delete that is refused has deleted some. */
 int __wrap_nardsill_delete_rows(nardsill *index, const nardsill_row *rows, size_t count, nardsill_stats *stats) {
+    checkpoints_before = checkpoints;
     if (!is_refused()) return __real_nardsill_delete_rows(index, rows, count, stats);
     TRUE(!__real_nardsill_delete_rows(index, rows, count / 2, stats));
     return NARDSILL_INDEX_FULL;
 }
 
 int __wrap_nardsill_commit(nardsill *index, uint64_t *actions) { return is_refused() ? NARDSILL_INDEX_FULL : __real_nardsill_commit(index, actions); }
+
+int __wrap_nardsill_checkpoint(nardsill *index, uint64_t *actions) {
+    checkpoints++;
+    return is_refused() ? NARDSILL_INDEX_FULL : __real_nardsill_checkpoint(index, actions);
+}
 
 int __wrap_nardsill_scan_read(nardsill_scan *scan, nardsill_entry *out, size_t room, size_t *count) {
     *count = 0;
@@ -160,7 +170,29 @@ static void fail_sync_behind(void) {
     puts("failing: a sync that fails behind the commit is told by the next use");
 }
 
+static int refuse_commit(void *unused) {
+    (void)unused;
+    checkpoints = checkpoints_before = 0;
+    return 1;
+}
+
+/* An undoing that deletes entries which nobody named, to put them back, has the log's whole room: a checkpoint goes before. */
+static void empty_log(void) {
+    fill();
+    sqlite3 *db = connect_to(":memory:");
+    run(db, "create virtual table t using nardsill('failing.idx')");
+    sqlite3_commit_hook(db, refuse_commit, 0);
+    refuses(db, "insert into t values ('new', 20, 1), ('new', 30, 1)", SQLITE_CONSTRAINT, "");
+    TRUE(checkpoints == 1 && checkpoints_before == 1);
+    ROWS(db, SUM, before);
+    refuses(db, "insert into t values ('new', 5000, 1)", SQLITE_CONSTRAINT, "");
+    TRUE(checkpoints == 0);
+    ROWS(db, SUM, before);
+    TRUE(!sqlite3_close(db));
+}
+
 int main(void) {
+    empty_log();
     try_each(1);
     try_each(2);
     fail_sync();

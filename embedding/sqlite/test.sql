@@ -132,6 +132,25 @@ select * from w;
 .print -- in a view
 create view v as select * from t;
 select * from v;
+create temp view w as select key, block from t;
+select block from w where key = 'bob';
+select name, "notnull" from pragma_table_info('t');
+insert into t values ('zoe', 30, 1) returning key, block, offset;
+delete from t where key = 'zoe';
+.print -- edges
+insert into t values ('kim', 4294967301, 1);
+insert into t values ('kim', 15, 65536);
+insert into t values ('kim', 15, 4294967297);
+insert into t values ('kim', '9 x', 1);
+select block from t where entry = (select entry from t where length(key) = 64);
+update t set block = 4294967293 where length(key) = 64;
+select block, offset, length(entry) from t where length(key) = 64;
+insert into t values ('order', 2147483648, 1), ('order', 1, 2), ('order', 4294967294, 1), ('order', 1, 1);
+select block, offset from t where key = 'order' order by key, block, offset;
+delete from t where key = 'order';
+select '[' || min(key) || ']', max(key) from t;
+select block from t where key is 'bob';
+select block from t where key is null or key is 5;
 .print -- many
 with recursive n(i) as (select 100 union all select i + 1 from n where i < 1099) insert into t select printf('key%04d', i), i, 1 from n;
 select count(*) from t where key >= 'key0500' and key < 'key0600';
