@@ -115,6 +115,9 @@ typedef struct {
 } nardsill_details;
 #define NARDSILL_DETAILS {sizeof(nardsill_details), 0, 0, 0, 0, 0, 0, 0, 0, 0}
 
+/* Never give a call a file that another library of this process locks, as an SQLite database: also a call that refuses it has opened and
+   closed it. By any closing of a file a process loses its POSIX locks of it, and another one may then write there. */
+
 /* Makes an empty index in a new file, which is at the path only once it is whole. Null limits are those of NARDSILL_LIMITS. Until then
    ".nardsill-draft" stands behind its name: so that has 240 bytes at most on most file systems. */
 NARDSILL_LOOK int nardsill_create(const char *path, const nardsill_limits *limits);
