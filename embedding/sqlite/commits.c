@@ -254,6 +254,9 @@ static void itself(void) {
     ROWS(db, "select count(*) from t", "12");
     run(db, "savepoint s; delete from u where key > 'b'; insert into t values ('z', 9, 9); rollback to s");
     ROWS(db, "select count(*) from u", "12");
+    run(db, "rollback; begin; insert into t values ('m', 8, 1), ('m', 9, 1); commit; begin; delete from t where block = 9");
+    run(db, "insert or ignore into u select key, block + 1, offset from t where block > 7");
+    ROWS(db, "select block from t where key = 'm'", "8,9");
     run(db, "delete from u where block > 2; commit; drop table u");
     end_case(BEFORE);
 }

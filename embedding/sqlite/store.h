@@ -135,6 +135,9 @@ static int open_index(store *s, const nardsill_limits *limits, int waits, char *
     do status = open_file(s->of->db, s->path, s->frames, limits, &index, message);
     while (status == SQLITE_BUSY && waits && !(ended = wait_for_file(s->of->db, &waited)));
     if (status) return ended ? ended : status;
+    /* While it waited it was told why not. */
+    sqlite3_free(*message);
+    *message = 0;
     int info = nardsill_info(index, &details);
     if (info) {
         status = refused(s->path, info, message);
@@ -326,7 +329,8 @@ static int next_stored(reader *r, const nardsill_entry **out) {
         const nardsill_entry *entry = &r->few[r->at_few];
         int is_given = r->has_entry && compare_entries(entry, &r->entry) <= 0;
         const change *c = is_given ? 0 : find_change(&r->of->pending, entry);
-        if (!is_given && (!c || c->now)) {
+        /* One that was removed may have been added again, later than this reading began. */
+        if (!is_given && (!c || (c->now && c->since <= r->time))) {
             *out = entry;
             return 0;
         }
