@@ -278,6 +278,15 @@ static void made_and_taken_back(void) {
     end_case(BEFORE);
 }
 
+/* A savepoint stays open behind the way back to it. */
+static void back_twice(void) {
+    begin_case("");
+    run(db, "begin; savepoint s; insert into t values ('x', 9, 1); rollback to s; insert into t values ('y', 9, 1); rollback to s");
+    ROWS(db, ALL_OF_T, BEFORE);
+    run(db, "insert into t values ('z', 9, 1); release s; rollback");
+    end_case(BEFORE);
+}
+
 /* A connection that is closed in a transaction rolls it back. */
 static void closed(void) {
     begin_case("");
@@ -301,6 +310,7 @@ int main(void) {
     many_cursors();
     itself();
     made_and_taken_back();
+    back_twice();
     closed();
     puts("commits: each is whole, or nothing of it");
     return 0;

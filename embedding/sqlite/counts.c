@@ -19,7 +19,8 @@ static sqlite3 *db;
 static void fill(int count) {
     unlink("counts.idx");
     db = connect_to(":memory:");
-    run(db, "create virtual table t using nardsill('counts.idx'); create table o(key text, block integer, offset integer)");
+    run(db, "create virtual table t using nardsill('counts.idx'); create virtual table u using nardsill('counts.idx');"
+            "create table o(key text, block integer, offset integer)");
     char *insert = sqlite3_mprintf("with recursive n(i) as (select 0 union all select i + 1 from n where i < %d)"
                                    "insert into o select printf('k%%06d', i * 7919 %% 100003 / 3), i, 1 from n; insert into t select * from o", count - 1);
     run(db, insert);
@@ -81,10 +82,10 @@ static size_t steps_behind(int deletions) {
     return taken;
 }
 
-/* How many steps a statement takes that adds so many entries as it reads. */
+/* How many steps a statement takes that adds so many entries as it reads, by another table of the same index. */
 static size_t steps_of_adding(int count) {
-    char text[120];
-    snprintf(text, sizeof text, "begin; insert into t values ('a', 1, 1); insert into t select 'z' || key, block, 2 from t where block < %d", count);
+    char text[140];
+    snprintf(text, sizeof text, "begin; insert into t values ('a', 1, 1); insert into u select 'z' || key, block, 2 from t where block < %d", count);
     steps = 0;
     run(db, text);
     size_t taken = steps;

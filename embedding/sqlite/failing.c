@@ -95,8 +95,9 @@ static void look_behind(sqlite3 *db) {
     ROWS(db, SUM, behind);
 }
 
-/* Makes the call fail that is the nth of a commit, so many times. Tells whether it has; and whether the database was committed then. */
-static int try(int nth, int so_often, int *committed) {
+/* Makes the call fail that is the nth of a commit, so many times. Tells whether it has; and whether the database was committed then. Behind it
+ * the table is used, or the connection closed at once: then the closing does what is owed. */
+static int try(int nth, int so_often, int is_closed, int *committed) {
     fill();
     sqlite3 *db = connect_to(":memory:");
     run(db, "create virtual table t using nardsill('failing.idx')");
@@ -110,9 +111,7 @@ static int try(int nth, int so_often, int *committed) {
     TRUE(!status || (was_refused && status == SQLITE_FULL && strstr(error, "IndexFull")));
     TRUE(sqlite3_get_autocommit(db));
     if (status || !was_refused) left_until = 0;
-    /* If nobody uses it any more, the closing does what is owed. */
-    int is_left = !status && was_refused && nth % 2;
-    if (is_left) left_until = 0;
+    if (is_closed) left_until = 0;
     else if (status) ROWS(db, SUM, before);
     else look_behind(db);
     sqlite3_free(error);
@@ -127,10 +126,10 @@ static int try(int nth, int so_often, int *committed) {
 
 static void try_each(int so_often) {
     int nth = 0, committed = 0, before_it = 0;
-    while (try(++nth, so_often, &committed)) before_it += !committed;
-    TRUE(before_it > 10 && nth - 1 - before_it >= 2);
-    printf("failing: %d calls before the database's commit, %d behind it, each refused %d times: the index is as it must be\n", before_it,
-           nth - 1 - before_it, so_often);
+    while (try(++nth, so_often, 0, &committed)) before_it += !committed;
+    TRUE(before_it > 10 && nth - 1 - before_it == 2);
+    for (int i = 1; i <= 2; i++) TRUE(try(before_it + i, 1, 1, &committed) && committed);
+    printf("failing: %d calls before the database's commit, 2 behind it, each refused %d times: the index is as it must be\n", before_it, so_often);
 }
 
 /* A sync that fails stops the index. The connection is closed and opened again: then the index is sound. */

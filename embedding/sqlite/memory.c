@@ -25,16 +25,20 @@ static const char committed[] = "a.1.1,b.1.1,c.2.1";
 
 static sqlite3 *db;
 
+/* What a transaction does before the statement that is tried, and what the table has then. */
+static const char *more = "", *before = "a.1.1,b.1.1,c.2.1,e.4.1,f.4.2";
+
 /* A transaction that has changed something. */
 static void begin_case(void) {
     db = connect_to(":memory:");
     run(db, "create virtual table t using nardsill('memory.idx', pages=32)");
     run(db, "delete from t; insert into t values ('a', 1, 1), ('b', 1, 1), ('c', 2, 1)");
     run(db, "begin; insert into t values ('d', 3, 1); savepoint s; insert into t values ('e', 4, 1), ('f', 4, 2); delete from t where key = 'd'");
+    run(db, more);
 }
 
 /* Runs the statement with the nth allocation refused; tells whether one was. */
-static int try(const char *statement, int nth, const char *before, char *after) {
+static int try(const char *statement, int nth, char *after) {
     begin_case();
     ROWS(db, ALL_OF_T, before);
     refused = 0;
@@ -56,9 +60,9 @@ static int try(const char *statement, int nth, const char *before, char *after) 
 static void try_each(const char *statement) {
     char after[1000] = "";
     int nth = 0;
-    try(statement, 0, "a.1.1,b.1.1,c.2.1,e.4.1,f.4.2", after);
-    while (try(statement, ++nth, "a.1.1,b.1.1,c.2.1,e.4.1,f.4.2", after)) continue;
-    printf("%d allocations: %s\n", nth - 1, statement);
+    try(statement, 0, after);
+    while (try(statement, ++nth, after)) continue;
+    printf("%d allocations: %s%s\n", nth - 1, more, statement);
 }
 
 /* A connection that is refused leaves the file to the next one. */
@@ -94,6 +98,15 @@ int main(void) {
     try_each("rollback to s");
     try_each("release s");
     try_each("commit");
+    /* Rows that go whole, and rows of which an entry goes and another comes or stays. */
+    more = "delete from t where block = 1;";
+    before = "c.2.1,e.4.1,f.4.2";
+    try_each("commit");
+    more = "delete from t where key = 'b'; update t set key = key || 'x' where block = 2;";
+    before = "a.1.1,cx.2.1,e.4.1,f.4.2";
+    try_each("commit");
+    more = "";
+    before = "a.1.1,b.1.1,c.2.1,e.4.1,f.4.2";
     try_each("rollback");
     try_connecting();
     return 0;
