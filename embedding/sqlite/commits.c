@@ -250,12 +250,12 @@ static void itself(void) {
     run(db, "insert into t select key || 'x', block + 10, offset from t");
     ROWS(db, ALL_OF_T, "a|1|1,ax|11|1,b|1|1,bx|11|1,c|2|1,cx|12|1");
     run(db, "create virtual table u using nardsill('commits.idx')");
-    run(db, "begin; insert into u select key, block + 100, offset from t");
+    run(db, "begin; insert into u select key, block + 100, offset from t where block < 500");
     ROWS(db, "select count(*) from t", "12");
     run(db, "savepoint s; delete from u where key > 'b'; insert into t values ('z', 9, 9); rollback to s");
     ROWS(db, "select count(*) from u", "12");
     run(db, "rollback; begin; insert into t values ('m', 8, 1), ('m', 9, 1); commit; begin; delete from t where block = 9");
-    run(db, "insert or ignore into u select key, block + 1, offset from t where block > 7");
+    run(db, "insert or ignore into u select key, block + 1, offset from t where block between 8 and 30");
     ROWS(db, "select block from t where key = 'm'", "8,9");
     run(db, "delete from u where block > 2; commit; drop table u");
     end_case(BEFORE);
