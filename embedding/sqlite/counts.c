@@ -43,7 +43,7 @@ static size_t reads(const char *query) {
 
 /* What needs few entries reads few. */
 static void reads_few(void) {
-    static const char *const queries[] = {"select min(key) from @", "select max(key) from @", "select block from @ where key is 'k000777' order by block",
+    static const char *const queries[] = {"select min(key) from @", "select max(key) from @", "select block from @ where key is 'k000000' order by block",
         "select min(key) from @ where key > 'k01'", "select max(key) from @ where key < 'k01'", "select max(key) from @ where key between 'k00' and 'k015x'",
         "select max(key) from @ where key > 'x'", "select distinct key from (select key from @ order by key desc limit 5)",
         "select count(*) from @ where key is null", "select key from @ order by key limit 3", "select min(key), 1 from @"};
