@@ -206,8 +206,10 @@ static void put_joined(void) {
         "select a.key, b.key from @ a join @ b on a.block = b.block and a.offset = b.offset and a.key < b.key",
         "select x.txt from other x where exists (select 1 from @ a where a.key = x.txt)",
         "select x.txt from other x where x.txt not in (select key from @)",
-        "select a.key, a.block from @ a where a.key in (select txt from other union select any from other)"};
-    put(one_of(joins, 12));
+        "select a.key, a.block from @ a where a.key in (select txt from other union select any from other)",
+        "select x.txt from other x left join @ a on a.key = x.txt where a.key is null",
+        "select x.txt, (select max(a.key) from @ a where a.key < x.txt), (select min(a.key) from @ a where a.key > x.txt) from other x"};
+    put(one_of(joins, 14));
 }
 
 /* Puts a query. `is_ordered` if the order of its rows is told. */

@@ -1,7 +1,8 @@
 /* Kills a process within a commit, at its writes of the index and of the database: kills [TIMES [SEED]]
  *
  * A transaction adds rows and deletes rows, more than the index's log holds. Whenever it's killed, the database has all of it or nothing, and
- * the index lacks no entry of a row that is there. What it has besides, the cleaning statement of the documents takes away. */
+ * the index lacks no entry of a row that is there. What it has besides, the cleaning statement of the documents takes away. Another one changes
+ * rows in part: behind it the index may lack entries too, and the second statement of the documents puts them back. */
 #include "testing.h"
 #include <signal.h>
 #include <sys/wait.h>
@@ -65,11 +66,19 @@ static void fill(const char *mode) {
     TRUE(!sqlite3_close(db));
 }
 
+/* Whether the transaction changes rows in part: one of a row's two entries. */
+static int is_in_part;
+
 /* The transaction. It is killed at a write; or tells how many it made. */
 static void change(void) {
     sqlite3 *db = connect_to("kills.db");
-    run(db, "pragma synchronous = off; begin; delete from letter where id % 5 < 2; delete from t where block % 5 < 2");
-    insert_letters(db, 501, 700);
+    run(db, "pragma synchronous = off; begin");
+    if (is_in_part) {
+        run(db, "update letter set sender = 'x' || sender where id % 3; update t set key = 'x' || key where block % 3 and key like 's%'");
+    } else {
+        run(db, "delete from letter where id % 5 < 2; delete from t where block % 5 < 2");
+        insert_letters(db, 501, 700);
+    }
     writes = 0;
     run(db, "commit");
     FILE *told = fopen("kills.told", "w");
@@ -95,16 +104,27 @@ static int run_child(uint32_t at) {
 
 #define LACKS "select count(*) from letter where not exists (select 1 from t where key = sender and block = id)" \
     " or not exists (select 1 from t where key = title and block = id)"
+#define PUT_BACK "insert or ignore into t select sender, id, 1 from letter union all select title, id, 1 from letter"
 #define CLEAN "delete from t where not exists (select 1 from letter where id = block and key in (sender, title))"
 
-/* Judges what a kill has left. Tells whether the database has the transaction; and whether the index had more than it. */
-static int judge(int *had_more) {
+/* Whether the database has the transaction, or nothing of it. */
+static int has_all(sqlite3 *db) {
+    static const char *const looks[] = {"select count(*), min(id), max(id) from letter", "select count(*), sum(sender like 'x%') from letter"};
+    static const char *const before[] = {"500|1|500", "500|0"}, *const behind[] = {"500|2|700", "500|334"};
+    int is_behind = !strcmp(rows_of(db, looks[is_in_part]), behind[is_in_part]);
+    if (!is_behind) ROWS(db, looks[is_in_part], before[is_in_part]);
+    return is_behind;
+}
+
+/* Judges what a kill has left. Tells whether the database has the transaction; and whether the index had more than it, or lacked something. */
+static int judge(int *had_more, int *lacked) {
     sqlite3 *db = connect_to("kills.db");
-    int is_behind = !strcmp(rows_of(db, "select count(*), min(id), max(id) from letter"), "500|2|700");
-    if (!is_behind) ROWS(db, "select count(*), min(id), max(id) from letter", "500|1|500");
-    ROWS(db, LACKS, "0");
-    *had_more = strcmp(rows_of(db, "select count(*) from t"), "1000") != 0;
+    int is_behind = has_all(db);
+    *lacked = strcmp(rows_of(db, LACKS), "0") != 0;
+    if (!is_in_part) TRUE(!*lacked);
+    *had_more = strcmp(rows_of(db, "select count(*) from t where not exists (select 1 from letter where id = block and key in (sender, title))"), "0") != 0;
     run(db, CLEAN);
+    if (is_in_part) run(db, PUT_BACK);
     ROWS(db, LACKS, "0");
     ROWS(db, "select count(*) from t", "1000");
     TRUE(!sqlite3_close(db));
@@ -122,29 +142,32 @@ static uint32_t num_writes(void) {
     return count;
 }
 
-static void kill_each(const char *mode, uint32_t times) {
-    int num_behind = 0, num_more = 0, num_killed = 0;
+static void kill_each(const char *mode, int in_part, uint32_t times) {
+    int num_behind = 0, num_more = 0, num_lacked = 0, num_killed = 0;
+    is_in_part = in_part;
     fill(mode);
     TRUE(!run_child(0));
     uint32_t count = num_writes();
     for (uint32_t i = 0; i < times; i++) {
-        int had_more;
+        int had_more, lacked;
         fill(mode);
         /* The first and the last ones are all tried. */
         uint32_t at = i < 4 ? i + 1 : i < times / 2 ? count - (i - 4) : 1 + roll(count);
         num_killed += run_child(at);
-        num_behind += judge(&had_more);
+        num_behind += judge(&had_more, &lacked);
         num_more += had_more;
+        num_lacked += lacked;
     }
-    TRUE(num_behind > 0 && num_behind < (int)times && num_more > 0);
-    printf("kills: %s, %u writes, %d killed: %d with the transaction, %d with entries too many, no row without its entry\n", mode, count, num_killed,
-           num_behind, num_more);
+    TRUE(num_behind < (int)times && num_more > 0);
+    printf("kills: %s, rows %s, %u writes, %d killed: %d with the transaction, %d with entries too many, %d with rows that lack one\n", mode,
+           in_part ? "in part" : "whole", count, num_killed, num_behind, num_more, num_lacked);
 }
 
 int main(int argc, char **argv) {
-    uint32_t times = argc > 1 ? (uint32_t)atoi(argv[1]) : 40;
+    uint32_t times = argc > 1 ? (uint32_t)atoi(argv[1]) : 24;
     dice = argc > 2 ? (uint32_t)atoi(argv[2]) : 1;
-    kill_each("delete", times);
-    kill_each("wal", times);
+    kill_each("delete", 0, times);
+    kill_each("wal", 0, times);
+    kill_each("delete", 1, times / 2);
     return 0;
 }
