@@ -184,6 +184,9 @@ static void empty_log(void) {
     refuses(db, "insert into t values ('new', 20, 1), ('new', 30, 1)", SQLITE_CONSTRAINT, "");
     TRUE(checkpoints == 1 && checkpoints_before == 1);
     ROWS(db, SUM, before);
+    refuses(db, "update t set key = 'new' where block = 700", SQLITE_CONSTRAINT, "");
+    TRUE(checkpoints == 1 && checkpoints_before == 1);
+    ROWS(db, SUM, before);
     refuses(db, "insert into t values ('new', 5000, 1)", SQLITE_CONSTRAINT, "");
     TRUE(checkpoints == 0);
     ROWS(db, SUM, before);

@@ -662,7 +662,7 @@ static void nothing_is_carried(store *s) {
 /* Gives the log its whole room, so that no entry is deleted on the disk before it is put back there. All that was done is durable already. */
 static int empty_log(store *s) {
     uint64_t actions;
-    return s->others.count && s->carried == ADDED ? nardsill_checkpoint(s->index, &actions) : 0;
+    return (s->others.count || s->changed.count) && s->carried == ADDED ? nardsill_checkpoint(s->index, &actions) : 0;
 }
 
 /* Undoes in the index whatever was carried out. The pending changes stay. It can be called again if it was refused. */
